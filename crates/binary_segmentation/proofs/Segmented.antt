@@ -1,0 +1,120 @@
+-- The whole run is grown behind the seeds' records: there is room for it, and the lent memory then holds what the definitions tell. Assumes nothing.
+use mathlib.Core.Path.{_≡_, refl, ap, _∙_}
+use mathlib.Core.List.{List, [], _∷_, _++_, map}
+use Prim.Native.Nat.{ℕ, zero, suc, _+_, _-_, _*_, _/_, _≤_}
+use native.Mathlib.Nat.{zero-add}
+use native.Mathlib.Omega.{arith}
+use lib.Ieee.{Float}
+use lib.ListN.{length}
+use Rattle.scope.specs.Lists.{holding}
+use Rattle.scope.specs.Grid.{Record}
+use Rattle.scope.specs.Layers.{Segment, one}
+use Rattle.scope.specs.Tree.{Run, direct, choice, verdict, seedRecords, parted, grow, grown, treeOf, recordsOf, nodes, nodeCount, sheet, mostNodes}
+use Rattle.segmentation.specs.Flat.{flatRows, gainsOf, recordsIn, Put}
+use Rattle.segmentation.proofs.Flat.{sets-holding, put-more, put-told, told-put}
+use Rattle.binary_segmentation.specs.declared.tree.Settings.{Settings}
+use Rattle.binary_segmentation.specs.declared.tree.Counts.{Counts}
+use Rattle.binary_segmentation.specs.Nodes.{toNode}
+use Rattle.binary_segmentation.specs.Growth.{runOver, over, Lent, stored, Written, Growing, Sound, Fits, Ready, Holds, Segmented}
+use Rattle.binary_segmentation.proofs.Records.{seeds-are}
+use Rattle.binary_segmentation.proofs.Demand.{demand}
+use Rattle.binary_segmentation.proofs.Growth.{direct-sound, made-few, nodes-long}
+
+-- ---- the stored records stand where they are read
+records-long : (rows : List ℕ) (gains : List Float) (k : ℕ) → length (recordsIn rows gains k) ≡ k
+unfolding recordsIn
+records-long rows gains zero = refl
+records-long rows gains (suc k) = ap suc (records-long _ _ k)
+
+records-stand : (k : ℕ) (rows : List ℕ) (gains : List Float) → 3 * k ≤ length rows → k ≤ length gains → (rows ≡ holding (flatRows (recordsIn rows gains k)) rows) × (gains ≡ holding (gainsOf (recordsIn rows gains k)) gains)
+unfolding recordsIn
+records-stand zero rows gains h g = (refl, refl)
+records-stand (suc k) [] gains h g = absurd (omega arith)
+records-stand (suc k) (a ∷ []) gains h g = absurd (omega arith)
+records-stand (suc k) (a ∷ b ∷ []) gains h g = absurd (omega arith)
+records-stand (suc k) (a ∷ b ∷ c ∷ rows) [] h g = absurd (omega arith)
+records-stand (suc k) (a ∷ b ∷ c ∷ rows) (x ∷ gains) h g =
+    let (p, q) = records-stand k rows gains (omega arith) (omega arith) in
+    (ap (λ (l : List ℕ). a ∷ b ∷ c ∷ l) p, ap (λ (l : List Float). x ∷ l) q)
+
+records-put : (k : ℕ) (rows : List ℕ) (gains : List Float) → 3 * k ≤ length rows → k ≤ length gains → Put (recordsIn rows gains k) 0 rows gains rows gains k
+records-put k rows gains h g =
+    let (p, q) = records-stand k rows gains h g in
+    let e = records-long rows gains k in
+    let w = told-put {rs = recordsIn rows gains k} (omega (arith, e)) (omega (arith, e)) p q in
+    record { rows-hold = w .rows-hold; gains-hold = w .gains-hold; told = omega (arith, e) }
+
+module _ (sums : List Float) (forbidden : List ℕ) (s : Settings) (n count : ℕ) (l : Lent) (ready : Ready sums forbidden s n count l) where
+  abbrev before : Counts
+  before = record { nodes = 0; records = count; cuts = 0 }
+
+  -- of each run whose seeds have the stored records
+  module _ (seeds : List Segment) (seeded : seedRecords (runOver sums forbidden s n seeds) ≡ stored l count) where
+    abbrev q : Run
+    q = runOver sums forbidden s n seeds
+
+    -- neither n nor the seeds are read while it is grown
+    same-growth : (k : ℕ) (rs : List Record) (start stop : ℕ) → grow (over sums forbidden s) k rs start stop ≡ grow q k rs start stop
+    unfolding grow verdict choice
+    same-growth zero rs start stop = refl
+    same-growth (suc k) rs start stop = let d = one (direct q start stop) in λ i. parted start stop d (verdict q rs start stop) (λ c. same-growth k (rs ++ d) start c i) (λ c more. same-growth k ((rs ++ d) ++ more) c stop i)
+
+    whole : grow (over sums forbidden s) n (stored l count) 0 n ≡ grown q
+    unfolding grown
+    whole = rw (← seeded) (same-growth n (seedRecords q) 0 n)
+
+    few : nodeCount (treeOf q) ≤ mostNodes n (s .m)
+    few = demand q (ready .least) (ready .nonempty) .few-nodes
+
+    few-cuts : length (sheet (treeOf q)) ≤ (mostNodes n (s .m) - 1) / 2
+    few-cuts = demand q (ready .least) (ready .nonempty) .few-cuts
+
+    few-made : length (grown q .made) ≤ nodeCount (treeOf q)
+    unfolding grown
+    few-made = made-few q n (seedRecords q) 0 n
+
+    seeds-sound : Sound (s .m) (seedRecords q)
+    seeds-sound r i = let f = seeds-are q r i in direct-sound q (f .seed .start) (f .seed .stop) r (f .found)
+
+    fits : Fits (over sums forbidden s) 0 n before l
+    fits = record {
+      least = ready .least;
+      nonempty = ready .nonempty;
+      sound = rw (← seeded) seeds-sound;
+      fuel = n;
+      enough = omega arith;
+      room-rows = rw whole (omega (arith, few, ready .room-rows));
+      room-gains = rw whole (omega (arith, few, ready .room-gains));
+      room-nodes = rw whole (omega (arith, few, ready .room-nodes));
+      room-cuts = rw whole (omega (arith, few-cuts, ready .room-cuts));
+    }
+
+    module _ (l′ : Lent) (next : Counts) (growing : Growing (over sums forbidden s) 0 n before l l′ next) where
+      written : Written (grown q) before l l′ next
+      written = rw whole at (growing .by n (omega arith))
+
+      -- the seeds' records, then those that are made
+      put : Put (recordsOf q) 0 (l .rows) (l .gains) (l′ .rows) (l′ .gains) (next .records)
+      unfolding recordsOf
+      put = put-more (rw (← seeded) at (records-put count (l .rows) (l .gains) (omega (arith, ready .room-rows)) (omega (arith, ready .room-gains)))) (written .records)
+
+      room : (3 * next .records ≤ length (l .rows)) × (next .records ≤ length (l .gains))
+      room = let e = written .records .told in (omega (arith, e, few-made, few, ready .room-rows), omega (arith, e, few-made, few, ready .room-gains))
+
+      holds : Holds q l l′ next
+      holds =
+          let (rows, gains) = put-told (room .0) (room .1) put in
+          let t = treeOf q in
+          record {
+            rows = rows;
+            gains = gains;
+            nodes = written .nodes ∙ sets-holding (l .nodes) (map toNode (nodes 0 t)) (omega (arith, nodes-long 0 t, few, ready .room-nodes));
+            cuts = written .cuts ∙ sets-holding (l .cuts) (sheet t) (omega (arith, few-cuts, ready .room-cuts));
+            counts = rw (written .next-node, put .told, written .next-cut) (simp zero-add);
+          }
+
+  pub whole-fits : Fits (over sums forbidden s) 0 n before l
+  whole-fits = fits (ready .seeds) (ready .seeded)
+
+  pub segmented : (l′ : Lent) (next : Counts) → Growing (over sums forbidden s) 0 n before l l′ next → Segmented sums forbidden s n count l l′ next
+  segmented l′ next growing = record { by = λ seeds seeded. holds seeds seeded l′ next growing }

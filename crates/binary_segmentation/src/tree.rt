@@ -1,0 +1,195 @@
+// Growing the tree: each segment is searched, its direct record appended, its choice judged; if it is cut, its left part is grown, then its right part.
+// What decides stands in small functions. `grow` and `binary_segmentation` hand the lent node list on and decide nothing.
+use crate::node;
+use crate::node::Node;
+use optimizer::grid_search;
+use optimizer::optimizer_result::BestSplit;
+use optimizer::optimizer_result::GainRecord;
+use rows::Position;
+use segmentation::choice;
+use segmentation::records;
+ghost use mathlib.Core.Path.{_≡_};
+ghost use Prim.Native.Nat.{_+_, _*_, _<_, _≤_, _^_};
+ghost use lib.ListN.{length, set};
+ghost use Rattle.binary_segmentation.specs.Growth.{over, behind, behindCut, Judging, Growing, Fits, Sized, Ready, Segmented};
+
+// The numbers that every segment shares.
+pub struct Settings {
+    pub d: usize,
+    pub m: usize,
+    pub threshold: f64,
+}
+
+// How many nodes, records and cuts there are: the places of the next ones.
+pub struct Counts {
+    pub nodes: usize,
+    pub records: usize,
+    pub cuts: usize,
+}
+
+// A segment once it is judged, and the counts behind its node and its record: the leaf that it is, or the record that cuts it.
+pub enum Judged {
+    Uncut(Node, Counts),
+    Cut(GainRecord, Counts),
+}
+
+impl Counts {
+    // One node more, and the records that it made.
+    fn behind(self, made: usize) -> Counts
+        requires { ⌜ (self .nodes + 1 < 2 ^ 64) × (self .records + made < 2 ^ 64) ⌝ }
+        ensures { λ r. ⌜ r ≡ behind self made ⌝ }
+    {
+        Counts {
+            nodes: self.nodes + 1,
+            records: self.records + made,
+            cuts: self.cuts,
+        }
+    }
+}
+
+// Searches [start, stop), appends its direct record, and judges its choice among the records before.
+fn judge(
+    sums: &[f64],
+    forbidden: &[usize],
+    settings: Settings,
+    start: Position,
+    stop: Position,
+    rows: &mut [usize],
+    gains: &mut [f64],
+    counts: Counts,
+) -> Judged
+    requires { ⌜ (start .0 ≤ stop .0) × Sized settings (stop .0) (length (now sums)) × (counts .nodes + 1 < 2 ^ 64) × (counts .records + 1 < 2 ^ 64) × (3 * counts .records + 3 ≤ length (now rows)) × (counts .records < length (now gains)) ⌝ }
+    ensures { λ r. ⌜ Judging (over (now (sums .entry)) (now (forbidden .entry)) settings) (start .0) (stop .0) counts (now (rows .entry)) (now (gains .entry)) (now (rows .exit)) (now (gains .exit)) r ⌝ }
+{
+    let d = settings.d;
+    let m = settings.m;
+    let BestSplit::Found(best_split, max_gain) = grid_search::find_best_split(
+        sums,
+        d,
+        m,
+        forbidden,
+        start,
+        stop,
+    ) else {
+        return Judged::Uncut(Node::without_choice(start, stop), counts.behind(0));
+    };
+    let direct = GainRecord {
+        start,
+        stop,
+        best_split,
+        max_gain,
+    };
+    let at = counts.records;
+    let choice = choice::choose(direct, rows, gains, at);
+    records::put_record(rows, gains, at, direct);
+    let next = counts.behind(1);
+    if choice::model_selection(choice, settings.threshold) {
+        return Judged::Cut(choice, next);
+    }
+    Judged::Uncut(Node::uncut(start, stop, choice), next)
+}
+
+// Appends a cut.
+fn put_cut(cuts: &mut [usize], counts: Counts, split: Position) -> Counts
+    requires { ⌜ counts .cuts < length (now cuts) ⌝ }
+    ensures { λ r. ⌜ (r ≡ behindCut counts) × (now (cuts .exit) ≡ set (now (cuts .entry)) (counts .cuts) (split .0)) ⌝ }
+{
+    let at = counts.cuts;
+    cuts[at] = split.0;
+    Counts {
+        nodes: counts.nodes,
+        records: counts.records,
+        cuts: at + 1,
+    }
+}
+
+// Grows the segment [start, stop): its nodes in preorder, its records, and its cuts from left to right, behind those that are counted. Tells the counts behind them.
+fn grow(
+    sums: &[f64],
+    forbidden: &[usize],
+    settings: Settings,
+    start: Position,
+    stop: Position,
+    rows: &mut [usize],
+    gains: &mut [f64],
+    nodes: &mut [Node],
+    cuts: &mut [usize],
+    counts: Counts,
+) -> Counts
+    requires { ⌜ Sized settings (stop .0) (length (now sums)) × Fits (over (now sums) (now forbidden) settings) (start .0) (stop .0) counts (record { rows = now rows; gains = now gains; nodes = now nodes; cuts = now cuts }) ⌝ }
+    ensures { λ r. ⌜ Growing (over (now (sums .entry)) (now (forbidden .entry)) settings) (start .0) (stop .0) counts (record { rows = now (rows .entry); gains = now (gains .entry); nodes = now (nodes .entry); cuts = now (cuts .entry) }) (record { rows = now (rows .exit); gains = now (gains .exit); nodes = now (nodes .exit); cuts = now (cuts .exit) }) r ⌝ }
+{
+    match judge(sums, forbidden, settings, start, stop, rows, gains, counts) {
+        Judged::Uncut(leaf, behind) => {
+            node::put_node(nodes, counts.nodes, leaf);
+            behind
+        }
+        Judged::Cut(choice, first) => {
+            let split = choice.best_split;
+            let left = grow(
+                sums,
+                forbidden,
+                settings,
+                start,
+                split,
+                rows,
+                gains,
+                nodes,
+                cuts,
+                first,
+            );
+            let second = put_cut(cuts, left, split);
+            node::put_node(
+                nodes,
+                counts.nodes,
+                Node::cut(start, stop, choice, first.nodes, left.nodes),
+            );
+            grow(
+                sums,
+                forbidden,
+                settings,
+                split,
+                stop,
+                rows,
+                gains,
+                nodes,
+                cuts,
+                second,
+            )
+        }
+    }
+}
+
+// Grows the whole run [0, n) behind the seeds' records, the first `count` ones. Tells how many nodes, records and cuts there are.
+pub fn binary_segmentation(
+    sums: &[f64],
+    forbidden: &[usize],
+    settings: Settings,
+    n: usize,
+    rows: &mut [usize],
+    gains: &mut [f64],
+    nodes: &mut [Node],
+    cuts: &mut [usize],
+    count: usize,
+) -> Counts
+    requires { ⌜ Sized settings n (length (now sums)) × Ready (now sums) (now forbidden) settings n count (record { rows = now rows; gains = now gains; nodes = now nodes; cuts = now cuts }) ⌝ }
+    ensures { λ r. ⌜ Segmented (now (sums .entry)) (now (forbidden .entry)) settings n count (record { rows = now (rows .entry); gains = now (gains .entry); nodes = now (nodes .entry); cuts = now (cuts .entry) }) (record { rows = now (rows .exit); gains = now (gains .exit); nodes = now (nodes .exit); cuts = now (cuts .exit) }) r ⌝ }
+{
+    let before = Counts {
+        nodes: 0,
+        records: count,
+        cuts: 0,
+    };
+    grow(
+        sums,
+        forbidden,
+        settings,
+        Position(0),
+        Position(n),
+        rows,
+        gains,
+        nodes,
+        cuts,
+        before,
+    )
+}

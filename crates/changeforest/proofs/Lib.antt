@@ -1,0 +1,2 @@
+-- What the entry points' proofs share: the facts that hold where nothing is refused.
+pub mod Clean

@@ -1,0 +1,2 @@
+-- What an enum's case tells of the definition's answer.
+pub mod Heard

@@ -1,0 +1,32 @@
+-- `changeforest_split_candidates` meets its contract: the enum's case, told as a number and a stored count.
+use mathlib.Core.Path.{_≡_, sym, _∙_}
+use denote.Ref.{now}
+use Prim.Native.Nat.{ℕ}
+use lib.ListN.{length}
+use Rattle.scope.specs.Refusals.{Answer}
+use Rattle.scope.specs.Calls.{candidatesAnswer}
+use Rattle.changeforest_c.proofs.Heard.{count-given, count-refused}
+use borrow.Author.Needs.{needs}
+use Rattle.changeforest_c.proofs.mean.changeforest_split_candidates.Statement.{statement}
+use Rattle.changeforest_c.proofs.mean.changeforest_split_candidates.Tie as tie
+
+abbrev answer : tie.Start → Answer ℕ
+answer s = candidatesAnswer (s .args .n) (s .args .m) (now (s .args .forbidden)) (s .args .start) (s .args .stop) (length (now (s .args .rows)))
+
+returns : tie.Need-returns
+returns c = let f = c .before .before .before .before .before .split-candidates .ensures in let a = count-given (answer (c .before .before .before .before .before .before .before .before .before)) (c .before .answer .given .0 .0) (sym (c .before .answer .given .1) ∙ f .0) in (rw a, (f .1, rw a))
+
+returns-2 : tie.Need-returns-2
+returns-2 c = let f = c .before .before .before .before .before .split-candidates .ensures in let a = count-refused (answer (c .before .before .before .before .before .before .before .before .before)) (c .before .answer2 .given .0 .0) (sym (c .before .answer2 .given .1) ∙ f .0) in (rw a, (f .1, rw a))
+
+pub changeforest-split-candidates-spec : {M : Type 1} → statement M
+changeforest-split-candidates-spec =
+    tie.close
+    (tie.spec
+    (λ c κs. search needs)
+    (λ c. search needs)
+    (λ c. search needs)
+    (λ c. search needs)
+    returns
+    (λ c. search needs)
+    returns-2)

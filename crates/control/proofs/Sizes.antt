@@ -1,0 +1,61 @@
+-- What holds where a size is not refused, and how firstOf goes on. Assumes nothing.
+use mathlib.Core.Path.{_≡_, refl, sym, _∙_, ap}
+use mathlib.Core.Bool.{Bool, true, false, not, _||_, true≢false}
+use mathlib.Core.List.{List, [], _∷_}
+use Prim.Native.Nat.{ℕ, zero, suc, _+_, _*_, _≤_, _<_}
+use native.Mathlib.Nat.{mul-le-mul}
+use native.Mathlib.Omega.{arith}
+use borrow.Author.Tests.{ltb-false, eqb-true, not-false}
+use lib.Dec.{ltb, eqb}
+use lib.Ieee.{Float}
+use lib.ListN.{length}
+use Rattle.scope.specs.Refusals.{Test, test, firstOf, Answer, refused, given, unless, toldUnless, outside, wrongMatrix, wrongSegment, wrongSplit}
+
+pub product-small : (n d : ℕ) → n ≤ 4097 → d ≤ 64 → n * d ≤ 262208
+product-small n d a b = mul-le-mul a b
+
+-- ---- of two tests joined by "or", neither holds
+pub neither : (s t : Bool) → (s || t) ≡ false → (s ≡ false) × (t ≡ false)
+neither true t e = absurd (true≢false e)
+neither false t e = (refl, e)
+
+pub inside : (most v : ℕ) → outside most v ≡ false → (1 ≤ v) × (v ≤ most)
+unfolding outside
+inside most v e = let (a, b) = neither (ltb v 1) (ltb most v) e in (ltb-false v 1 a, ltb-false most v b)
+
+-- a matrix that is not refused
+pub record Matrix (most : ℕ) (cells : List Float) (n d : ℕ) : Type 0 where
+  pub rows : (1 ≤ n) × (n ≤ most)
+  pub columns : (1 ≤ d) × (d ≤ 64)
+  pub long : length cells ≡ n * d
+
+pub matrix : (most : ℕ) (cells : List Float) (n d : ℕ) → wrongMatrix most cells n d ≡ false → Matrix most cells n d
+unfolding wrongMatrix
+matrix most cells n d e =
+    let (a, b) = neither (outside most n || outside 64 d) (not (eqb (length cells) (n * d))) e in
+    let (i, j) = neither (outside most n) (outside 64 d) a in
+    record { rows = inside most n i; columns = inside 64 d j; long = eqb-true (length cells) (n * d) (not-false _ b) }
+
+pub segment : (n start stop : ℕ) → wrongSegment n start stop ≡ false → (start ≤ stop) × (stop ≤ n)
+unfolding wrongSegment
+segment n start stop e = let (a, b) = neither (ltb stop start) (ltb n stop) e in (ltb-false stop start a, ltb-false n stop b)
+
+pub split-in : (start stop split : ℕ) → wrongSplit start stop split ≡ false → (start ≤ split) × (split ≤ stop)
+unfolding wrongSplit
+split-in start stop x e = let (a, b) = neither (ltb x start) (ltb stop x) e in (ltb-false x start a, ltb-false stop x b)
+
+-- ---- the first test of a list holds, or does not
+pub that : (b : Bool) (k : ℕ) (ts : List Test) → b ≡ true → k ≡ firstOf (test b k ∷ ts)
+that b k ts e = rw e
+
+pub not-that : (b : Bool) (k : ℕ) (ts : List Test) → b ≡ false → firstOf (test b k ∷ ts) ≡ firstOf ts
+not-that b k ts e = rw e
+
+-- ---- a number above 0 is the answer, and nothing is told
+pub unless-refused : {A : Type 0} (k : ℕ) (a : A) → (k ≡ 0 → ⊥) → unless k a ≡ refused k
+unless-refused zero a h = absurd (h refl)
+unless-refused (suc k) a h = refl
+
+pub told-nothing : {A : Type 0} (k : ℕ) (l : List A) → (k ≡ 0 → ⊥) → toldUnless k l ≡ []
+told-nothing zero l h = absurd (h refl)
+told-nothing (suc k) l h = refl

@@ -1,0 +1,136 @@
+// What every call checks before it stores anything: sizes, finite values, forbidden pairs, segments and splits. Inside the library.
+// Each function answers one test of document 01's table of refusals; which number it gives is the caller's.
+use rows::Position;
+ghost use mathlib.Core.Path.{_≡_};
+ghost use mathlib.Core.Bool.{Bool, true, false};
+ghost use Prim.Native.Nat.{_+_, _*_, _/_, _≤_, min};
+ghost use lib.Ieee.{isNan};
+ghost use Rattle.scope.specs.Floats.{isFinite};
+ghost use Rattle.scope.specs.Lists.{every};
+ghost use Rattle.scope.specs.Tree.{mostNodes};
+ghost use Rattle.scope.specs.Refusals.{outside, wrongMatrix, isBetween, wellPaired, wrongSegment, wrongSplit};
+
+// Sizes.
+pub const MOST_ROWS: usize = 4096;
+
+pub const MOST_COLUMNS: usize = 64;
+
+pub const MOST_LENGTH: usize = 4096;
+
+pub const MOST_NEIGHBOURS: usize = 1024;
+
+// Whether v is not one of 1 to most.
+pub fn is_outside(most: usize, v: usize) -> bool
+    ensures { λ r. ⌜ r ≡ outside most v ⌝ }
+{
+    v < 1 || most < v
+}
+
+// Whether v is neither infinite nor NaN.
+pub fn is_finite(v: f64) -> bool
+    ensures { λ r. ⌜ r ≡ isFinite v ⌝ }
+{
+    let infinity = 1.0 / 0.0;
+    if v < infinity { -infinity < v } else { false }
+}
+
+// Whether v is NaN, which alone differs from itself.
+pub fn is_nan(v: f64) -> bool
+    ensures { λ r. ⌜ r ≡ isNan v ⌝ }
+{
+    v != v
+}
+
+// Whether all values are finite.
+pub fn all_finite(values: &[f64]) -> bool
+    ensures { λ r. ⌜ r ≡ every isFinite (now (values .entry)) ⌝ }
+{
+    let mut i = 0;
+    while i < values.len() {
+        if !is_finite(values[i]) {
+            return false;
+        }
+        i += 1;
+    }
+    true
+}
+
+// Whether x lies strictly between low and high.
+pub fn is_between(low: f64, high: f64, x: f64) -> bool
+    ensures { λ r. ⌜ r ≡ isBetween low high x ⌝ }
+{
+    low < x && x < high
+}
+
+// Whether the matrix has a size that is refused: n rows, most at most, of d columns.
+pub fn wrong_matrix(cells: &[f64], n: usize, d: usize, most: usize) -> bool
+    requires { ⌜ most ≤ 4096 ⌝ }
+    ensures { λ r. ⌜ r ≡ wrongMatrix most (now (cells .entry)) n d ⌝ }
+{
+    if is_outside(most, n) {
+        return true;
+    }
+    if is_outside(MOST_COLUMNS, d) {
+        return true;
+    }
+    cells.len() != n * d
+}
+
+// How many prefix sums n rows of d columns have.
+pub fn sums_len(n: usize, d: usize) -> usize
+    requires { ⌜ (n ≤ 4096) × (d ≤ 64) ⌝ }
+    ensures { λ r. ⌜ r ≡ (n + 1) * d ⌝ }
+{
+    (n + 1) * d
+}
+
+// Whether the forbidden list consists of pairs with a <= b.
+pub fn well_paired(forbidden: &[usize]) -> bool
+    ensures { λ r. ⌜ r ≡ wellPaired (now (forbidden .entry)) ⌝ }
+{
+    let mut i = 0;
+    while i + 1 < forbidden.len() {
+        if forbidden[i + 1] < forbidden[i] {
+            return false;
+        }
+        i += 2;
+    }
+    i == forbidden.len()
+}
+
+// Whether [start, stop) is no segment of n rows.
+pub fn wrong_segment(n: usize, start: Position, stop: Position) -> bool
+    ensures { λ r. ⌜ r ≡ wrongSegment n (start .0) (stop .0) ⌝ }
+{
+    stop.0 < start.0 || n < stop.0
+}
+
+// Whether a split lies outside its segment.
+pub fn wrong_split(start: Position, stop: Position, split: Position) -> bool
+    ensures { λ r. ⌜ r ≡ wrongSplit (start .0) (stop .0) (split .0) ⌝ }
+{
+    split.0 < start.0 || stop.0 < split.0
+}
+
+// B, the most nodes that a tree of n rows with minimal length m has.
+pub fn most_nodes(n: usize, m: usize) -> usize
+    requires { ⌜ (n ≤ 4096) × (1 ≤ m) ⌝ }
+    ensures { λ r. ⌜ (r ≡ mostNodes n m) × (r ≤ 8192) ⌝ }
+{
+    if n < 1 {
+        return 1;
+    }
+    let q = (n - 1) / m;
+    if q < 1 {
+        return 1;
+    }
+    2 * q - 1
+}
+
+// How many records fit where each takes three row numbers and one gain.
+pub fn record_room(rows: usize, gains: usize) -> usize
+    ensures { λ r. ⌜ r ≡ min (rows / 3) gains ⌝ }
+{
+    let threes = rows / 3;
+    if threes < gains { threes } else { gains }
+}

@@ -1,0 +1,4 @@
+-- The definitions that the contracts of `deck` cite.
+pub mod Walk
+pub mod Meaning
+pub mod Limits

@@ -1,0 +1,2 @@
+-- Laws that the proofs of the gains share.
+pub mod Cumsum

@@ -1,0 +1,3 @@
+-- What contracts inside the crate cite, beside document 01's definitions.
+pub mod Lent
+pub mod Marks

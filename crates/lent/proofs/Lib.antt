@@ -1,0 +1,11 @@
+-- Rules for a walk by hand over lent slices, leaves first.
+pub mod Again
+pub mod Relend
+pub mod Shares
+pub mod SharesOn
+pub mod Data
+pub mod Held
+pub mod Locals
+pub mod Walk
+pub mod Calls
+pub mod Meets

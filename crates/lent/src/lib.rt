@@ -1,0 +1,1 @@
+// Rules for proofs by hand over lent slices of structs: no code. Inside the library.

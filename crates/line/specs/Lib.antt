@@ -1,0 +1,3 @@
+-- The definitions that the contracts of `line` cite.
+pub mod Walk
+pub mod Kept

@@ -1,0 +1,34 @@
+-- The gain record and the search's answer: the code's types beside the definitions' values.
+use mathlib.Core.List.{List, [], _∷_}
+use Prim.Native.Nat.{ℕ, _-_}
+use lib.Ieee.{Float}
+use Rattle.scope.specs.Floats.{lowest}
+use Rattle.scope.specs.Refusals.{Answer, refused, given, unless, firstOf, no9}
+use Rattle.scope.specs.Candidates.{no10}
+use Rattle.scope.specs.Grid.{Record, blank, best, trials}
+use Rattle.scope.specs.Calls.{Split, splitOf}
+use Rattle.optimizer.specs.declared.optimizer_result.GainRecord.{GainRecord}
+use Rattle.optimizer.specs.declared.optimizer_result.BestSplit.{BestSplit}
+use Rattle.optimizer.specs.declared.optimizer_result.BestSplit.the-variants.{Found, Refused}
+
+-- the record that the struct stands for
+abbrev pub toRecord : GainRecord → Record
+toRecord r = record { start = r .start .0; stop = r .stop .0; split = r .«best_split» .0; gain = r .«max_gain» }
+
+-- another split of a record's segment
+abbrev pub tried : Record → ℕ → Float → Record
+tried r split gain = record { start = r .start; stop = r .stop; split = split; gain = gain }
+
+-- the guess and minus infinity
+abbrev pub guessed : ℕ → ℕ → ℕ → Record
+guessed start stop guess = record { start = start; stop = stop; split = guess; gain = lowest }
+
+-- "A search answers with a split and its gain, or a number."
+abbrev pub bestSplitOf : Answer Split → BestSplit
+bestSplitOf (refused k) = Refused k
+bestSplitOf (given s) = Found (record { 0 = s .split }) (s .gain)
+
+-- what a search of [start, stop) answers, once nothing lower than 9 applies
+unfoldable pub searched : (ℕ → ℕ → ℕ → Float) → ℕ → List ℕ → ℕ → ℕ → Answer Split
+searched gain m forbidden start stop =
+    unless (firstOf (no9 m (stop - start) ∷ no10 m forbidden start stop ∷ [])) (splitOf (best (blank start stop) (trials gain m forbidden start stop)))

@@ -1,0 +1,70 @@
+// What a search finds: the gain record, by value, and the answer that callers take the split out of. After optimizer/optimizer_result.rs.
+use rows::Position;
+ghost use mathlib.Core.Path.{_≡_};
+ghost use Rattle.scope.specs.Floats.{lowest};
+ghost use Rattle.scope.specs.Grid.{blank, better};
+ghost use Rattle.optimizer.specs.Records.{toRecord, tried, guessed};
+
+// The best split of [start, stop) and its gain.
+pub struct GainRecord {
+    pub start: Position,
+    pub stop: Position,
+    pub best_split: Position,
+    pub max_gain: f64,
+}
+
+// A search answers with a split and its gain, or with the number of a refusal.
+pub enum BestSplit {
+    Found(Position, f64),
+    Refused(u32),
+}
+
+// Rattle has no literal for it.
+pub fn minus_infinity() -> f64
+    ensures { λ r. ⌜ r ≡ lowest ⌝ }
+{
+    -1.0 / 0.0
+}
+
+impl GainRecord {
+    // Nothing seen yet: split 0 and minus infinity.
+    pub fn blank(start: Position, stop: Position) -> GainRecord
+        ensures { λ r. ⌜ toRecord r ≡ blank (start .0) (stop .0) ⌝ }
+    {
+        GainRecord {
+            start,
+            stop,
+            best_split: Position(0),
+            max_gain: minus_infinity(),
+        }
+    }
+
+    // Nothing seen yet, from a guess: the guess and minus infinity.
+    pub fn guessed(start: Position, stop: Position, guess: Position) -> GainRecord
+        ensures { λ r. ⌜ toRecord r ≡ guessed (start .0) (stop .0) (guess .0) ⌝ }
+    {
+        GainRecord {
+            start,
+            stop,
+            best_split: guess,
+            max_gain: minus_infinity(),
+        }
+    }
+
+    // The split is taken only if its gain is strictly greater: so the first of equal gains wins, and NaN never does.
+    pub fn better(self, split: Position, gain: f64) -> GainRecord
+        ensures { λ r. ⌜ toRecord r ≡ better (toRecord self) (tried (toRecord self) (split .0) gain) ⌝ }
+    {
+        if self.max_gain < gain {
+            let start = self.start;
+            let stop = self.stop;
+            return GainRecord {
+                start,
+                stop,
+                best_split: split,
+                max_gain: gain,
+            };
+        }
+        self
+    }
+}

@@ -1,0 +1,152 @@
+// The answers. Their bytes wait in a buffer, which is written out when it is full. Each function here adds to it: it takes how many
+// bytes wait, and answers how many wait then.
+use crate::lent::least;
+use libc::STDOUT_FILENO;
+
+pub const OUT: usize = 65536;
+
+// Beside the refusals' numbers: a line that is no case, and one that is past a capacity.
+pub const UNKNOWN: u32 = 98;
+
+pub const TOO_LARGE: u32 = 99;
+
+// Writes out what waits.
+pub fn flush(out: &[u8], waiting: usize) {
+    if waiting <= out.len() {
+        io::write_all(STDOUT_FILENO, &out[0..waiting]);
+    }
+}
+
+fn byte(out: &mut [u8; OUT], waiting: usize, b: u8) -> usize {
+    if waiting < OUT {
+        out[waiting] = b;
+        return waiting + 1;
+    }
+    flush(out, waiting);
+    out[0] = b;
+    1
+}
+
+pub fn word(out: &mut [u8; OUT], waiting: usize, bytes: &[u8]) -> usize {
+    let mut now = waiting;
+    let mut i = 0;
+    while i < bytes.len() {
+        now = byte(out, now, bytes[i]);
+        i += 1;
+    }
+    now
+}
+
+// A blank and a number.
+pub fn number(out: &mut [u8; OUT], waiting: usize, n: usize) -> usize {
+    let mut digits = [0u8; 20];
+    let k = io::decimal(n as u64, &mut digits);
+    let waiting = byte(out, waiting, b' ');
+    word(out, waiting, &digits[0..k])
+}
+
+// A blank and at least `width` hex digits.
+fn hex(out: &mut [u8; OUT], waiting: usize, bits: u64, width: usize) -> usize {
+    let mut digits = [0u8; 16];
+    let k = io::hex(bits, width, &mut digits);
+    let waiting = byte(out, waiting, b' ');
+    word(out, waiting, &digits[0..k])
+}
+
+// A value's bits; every NaN has the same.
+fn bits_of(x: f64) -> u64 {
+    if x != x {
+        return 0x7ff8_0000_0000_0000;
+    }
+    f64::to_bits(x)
+}
+
+fn bits_of_f32(x: f32) -> u32 {
+    if x != x {
+        return 0x7fc0_0000;
+    }
+    f32::to_bits(x)
+}
+
+// A blank and a value's bits.
+pub fn value(out: &mut [u8; OUT], waiting: usize, x: f64) -> usize {
+    hex(out, waiting, bits_of(x), 16)
+}
+
+pub fn value_f32(out: &mut [u8; OUT], waiting: usize, x: f32) -> usize {
+    hex(out, waiting, bits_of_f32(x) as u64, 8)
+}
+
+// The first `count` of a list, and the line's end.
+pub fn numbers_end(
+    out: &mut [u8; OUT],
+    waiting: usize,
+    list: &[usize],
+    count: usize,
+    kept: bool,
+) -> usize {
+    let n = least(count, list.len());
+    let mut now = waiting;
+    let mut i = 0;
+    while i < n {
+        now = number(out, now, list[i]);
+        i += 1;
+    }
+    end(out, now, kept)
+}
+
+pub fn values_end(
+    out: &mut [u8; OUT],
+    waiting: usize,
+    list: &[f64],
+    count: usize,
+    kept: bool,
+) -> usize {
+    let n = least(count, list.len());
+    let mut now = waiting;
+    let mut i = 0;
+    while i < n {
+        now = value(out, now, list[i]);
+        i += 1;
+    }
+    end(out, now, kept)
+}
+
+// The line's end: whether lent memory beyond what was told is as it was.
+pub fn end(out: &mut [u8; OUT], waiting: usize, kept: bool) -> usize {
+    if kept {
+        return word(out, waiting, b" kept\n");
+    }
+    word(out, waiting, b" touched\n")
+}
+
+// `ok`, and the first of what is told.
+pub fn ok_number(out: &mut [u8; OUT], waiting: usize, n: usize) -> usize {
+    let waiting = word(out, waiting, b"ok");
+    number(out, waiting, n)
+}
+
+pub fn ok_value(out: &mut [u8; OUT], waiting: usize, x: f64) -> usize {
+    let waiting = word(out, waiting, b"ok");
+    value(out, waiting, x)
+}
+
+// The line of a split and its gain.
+pub fn found(out: &mut [u8; OUT], waiting: usize, split: usize, gain: f64, kept: bool) -> usize {
+    let waiting = ok_number(out, waiting, split);
+    let waiting = value(out, waiting, gain);
+    end(out, waiting, kept)
+}
+
+// The line of a case that is refused.
+pub fn refused(out: &mut [u8; OUT], waiting: usize, no: u32, kept: bool) -> usize {
+    if no == UNKNOWN {
+        return word(out, waiting, b"unknown\n");
+    }
+    if no == TOO_LARGE {
+        return word(out, waiting, b"too large\n");
+    }
+    let waiting = word(out, waiting, b"refused");
+    let waiting = number(out, waiting, no as usize);
+    end(out, waiting, kept)
+}

@@ -1,0 +1,2 @@
+-- What the contracts cite beside document 01's own definitions.
+pub mod Range

@@ -1,0 +1,2 @@
+-- Laws on lists that every writing loop uses.
+pub mod Stored

@@ -1,0 +1,89 @@
+-- The candidates are the allowed rows, ascending; refusals 9 and 10 are given exactly if there is none. Assumes nothing.
+use mathlib.Core.Path.{_≡_, refl, sym, ap, _∙_}
+use mathlib.Core.Logic.{_↔_, _⊎_, inl, inr, ⊎-elim}
+use mathlib.Core.Bool.{Bool, true, false, cond, not, _&&_, _||_, false≢true, true≢false}
+use mathlib.Core.List.{List, [], _∷_, _++_, List·Memᴰ, List·Memᴰ·head, List·Memᴰ·tail, List·Memᴰ·not-nil}
+use Prim.Native.Nat.{ℕ, zero, suc, _+_, _-_, _*_, _≤_, _<_}
+use native.Mathlib.Numerals.{add-one}
+use native.Mathlib.Omega.{arith}
+use borrow.Author.Tests.{ltb-true, leb-true, lt-ltb, le-leb, leb-false, ltb-false}
+use lib.Dec.{ltb, leb}
+use Rattle.scope.specs.Lists.{upward, keep, select, isEmpty}
+use Rattle.scope.specs.Refusals.{test, firstOf, no9}
+use Rattle.scope.specs.Candidates.{isBarred, rangeSize, candidates, allBarred, no10}
+use Rattle.scope.specs.Allowed.{Pair, here, later, Allowed, Ascending}
+use Rattle.scope.proofs.Lists.{select-append, select-are, select-all, upward-are}
+
+-- ---- barred, by a pair
+or-false : (a b : Bool) → a || b ≡ false → (a ≡ false) × (b ≡ false)
+or-false true b h = absurd (true≢false h)
+or-false false b h = (refl, h)
+
+pub free-of : (ps : List ℕ) (x : ℕ) → isBarred ps x ≡ false → (a b : ℕ) → Pair a b ps → a < x → x ≤ b → ⊥
+unfolding isBarred
+free-of ps x f a b (here {ps = qs}) l u = true≢false (sym (rw (lt-ltb a x l, le-leb x b u)) ∙ f)
+free-of ps x f a b (later {c = c} {d = d} {ps = qs} p) l u = free-of qs x (or-false (ltb c x && leb x d) (isBarred qs x) f .1) a b p l u
+
+pub barred-not : (ps : List ℕ) (x : ℕ) → ((a b : ℕ) → Pair a b ps → a < x → x ≤ b → ⊥) → isBarred ps x ≡ false
+unfolding isBarred
+barred-not [] x f = refl
+barred-not (a ∷ []) x f = refl
+barred-not (a ∷ b ∷ ps) x f = go (ltb a x) (leb x b) refl refl (barred-not ps x (λ c d p. f c d (later p)))
+  where
+    go : (s t : Bool) → ltb a x ≡ s → leb x b ≡ t → isBarred ps x ≡ false → (s && t) || isBarred ps x ≡ false
+    go true true i j r = absurd (f a b here (ltb-true a x i) (leb-true x b j))
+    go true false i j r = r
+    go false t i j r = r
+
+not-true : (b : Bool) → not b ≡ true → b ≡ false
+not-true true h = absurd (false≢true h)
+not-true false h = refl
+
+-- ---- the list holds exactly the allowed rows
+pub candidates-are : (m : ℕ) (forbidden : List ℕ) (start stop x : ℕ) → List·Memᴰ x (candidates m forbidden start stop) ↔ Allowed m forbidden start stop x
+unfolding candidates rangeSize
+candidates-are m ps start stop x = (
+  λ i.
+      let (j, t) = select-are (λ y. not (isBarred ps y)) (upward (start + m) (stop - start - 2 * m)) x i in
+      let (l, h) = upward-are (start + m) (stop - start - 2 * m) x .0 j in
+      record { low = l; high = omega arith; free = free-of ps x (not-true (isBarred ps x) t) },
+  λ w.
+      select-all (λ y. not (isBarred ps y)) (upward (start + m) (stop - start - 2 * m)) x (upward-are (start + m) (stop - start - 2 * m) x .1 (w .low, omega arith)) (ap not (barred-not ps x (w .free))),
+)
+
+-- ---- ascending
+ascending-end : (lo : ℕ) (xs : List ℕ) (y : ℕ) → lo ≤ y → ((x : ℕ) → List·Memᴰ x xs → x < y) → Ascending lo xs → Ascending lo (xs ++ (y ∷ []))
+ascending-end lo [] y l h a = (l, tt)
+ascending-end lo (x ∷ xs) y l h a = (a .0, ascending-end (x + 1) xs y (omega (arith, h x (List·Memᴰ·head refl))) (λ z i. h z (List·Memᴰ·tail i)) (a .1))
+
+ascending-select : (p : ℕ → Bool) (lo k : ℕ) → Ascending lo (select p (upward lo k))
+unfolding upward select
+ascending-select p lo zero = tt
+ascending-select p lo (suc k) = rw (select-append p (upward lo k) ((lo + k) ∷ [])) (go (p (lo + k)) (ascending-select p lo k))
+  where
+    go : (b : Bool) → Ascending lo (select p (upward lo k)) → Ascending lo (select p (upward lo k) ++ keep b (lo + k) [])
+    go true a = ascending-end lo (select p (upward lo k)) (lo + k) (omega arith) (λ x i. upward-are lo k x .0 (select-are p (upward lo k) x i .0) .1) a
+    go false a = rw mathlib.Core.List.append-nil a
+
+pub candidates-ascend : (m : ℕ) (forbidden : List ℕ) (start stop : ℕ) → Ascending (start + m) (candidates m forbidden start stop)
+unfolding candidates
+candidates-ascend m ps start stop = ascending-select (λ x. not (isBarred ps x)) (start + m) (rangeSize m start stop)
+
+-- ---- "Refused exactly if no such row exists, by 9 or 10."
+none-in : (m : ℕ) (ps : List ℕ) (start stop : ℕ) → stop - start ≤ 2 * m → isEmpty (candidates m ps start stop) ≡ true
+unfolding candidates rangeSize upward select
+none-in m ps start stop h = let e : stop - start - 2 * m ≡ 0 = omega arith in rw e
+
+pub refusal-9-10 : (m : ℕ) (forbidden : List ℕ) (start stop : ℕ)
+    → firstOf (no9 m (stop - start) ∷ no10 m forbidden start stop ∷ []) ≡ cond (isEmpty (candidates m forbidden start stop)) (cond (leb (stop - start) (2 * m)) 9 10) 0
+unfolding rangeSize allBarred
+refusal-9-10 m ps start stop = go (leb (stop - start) (2 * m)) refl
+  where
+    some : (b : Bool) → firstOf (test b 10 ∷ []) ≡ cond b 10 0
+    some true = refl
+    some false = refl
+
+    go : (b : Bool) → leb (stop - start) (2 * m) ≡ b
+        → firstOf (test b 9 ∷ test (ltb 0 (stop - start - 2 * m) && isEmpty (candidates m ps start stop)) 10 ∷ []) ≡ cond (isEmpty (candidates m ps start stop)) (cond b 9 10) 0
+    go true e = rw (none-in m ps start stop (leb-true _ _ e))
+    go false e = let long = leb-false (stop - start) (2 * m) e in let pos : 0 < stop - start - 2 * m = omega arith in rw (lt-ltb 0 (stop - start - 2 * m) pos) (some (isEmpty (candidates m ps start stop)))

@@ -1,0 +1,11 @@
+-- Laws about the definitions of specs/.
+pub mod Order
+pub mod Lists
+pub mod Members
+pub mod Lowest
+pub mod Candidates
+pub mod Sums
+pub mod Greatest
+pub mod Signs
+pub mod Ordering
+pub mod Permuted

@@ -1,0 +1,22 @@
+-- Document 01, section by section, in its order.
+pub mod Floats
+pub mod Lists
+pub mod Refusals
+pub mod Rounding
+pub mod Candidates
+pub mod Allowed
+pub mod Sums
+pub mod Gain
+pub mod Columns
+pub mod Grid
+pub mod Greatest
+pub mod Layers
+pub mod Tree
+pub mod Neighbours
+pub mod Curves
+pub mod Permutations
+pub mod Sorted
+pub mod Calls
+pub mod Text
+pub mod Program
+pub mod Marked

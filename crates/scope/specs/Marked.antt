@@ -1,0 +1,140 @@
+-- Marked cases: M1 to M11, "One statement over a single table proves these of the definitions".
+use mathlib.Core.Path.{_≡_, refl}
+use mathlib.Core.Bool.{Bool, true, false}
+use mathlib.Core.List.{List, [], _∷_, _++_, map, flatten}
+use mathlib.Core.Option.{Option, none, some}
+use Prim.Native.Nat.{ℕ}
+use Prim.Native.String.{String}
+use lib.IntN.{pos, negsuc}
+use lib.ListN.{length, replicate}
+use lib.Ieee.{Float, fin, binary64, add, sub, mul, div, ofInt, ofBits, toBits, lt, le, eq, isNan}
+use Rattle.scope.specs.Floats.{whole, _⊘_}
+use Rattle.scope.specs.Lists.{upward, select, every}
+use Rattle.scope.specs.Refusals.{Answer, refused, given, outside, wrongMatrix, isBetween, wellPaired, wrongLayers, wrongSegment, wrongSplit}
+use Rattle.scope.specs.Rounding.{nearestOf, truncation, ceiling, minimalLength, wholeRoot}
+use Rattle.scope.specs.Candidates.{isBarred, rangeSize, candidates, allBarred}
+use Rattle.scope.specs.Sums.{flatSums, prefixSums}
+use Rattle.scope.specs.Gain.{term, terms, innerGain, gainOf}
+use Rattle.scope.specs.Grid.{better, best, trials, search}
+use Rattle.scope.specs.Layers.{Segment, layerLength, layerCount, layerStep, layerStart, layerStop, layerSegments, seeded, layersTotal, stored}
+use Rattle.scope.specs.Tree.{Tree, seedRecords, inside, choice, verdict, grow, grown, treeOf, recordsOf, nodeCount, nodes, cuts, sheet}
+use Rattle.scope.specs.Neighbours.{difference, squares, distances, insert, ordered, orderOf, others, neighbours, countOf, predictions}
+use Rattle.scope.specs.Curves.{guesses}
+use Rattle.scope.specs.Permutations.{isPermutation, wrongPermutations, addDeltas, added, reaches, exceeds, counter}
+use Rattle.scope.specs.Calls.{Split, Room, Counts, Tested, lengthAnswer, candidatesRefusal, candidatesAnswer, candidatesTold, gainRefusal, gainAnswer, searchRefusal, searchAnswer, treeRefusal, treeAnswer, treeCuts, predictRefusal, predictTold, guessesAnswer, wrongLengths, permutationAnswer}
+use Rattle.scope.specs.Text.{bytes, same, parts, valueOf, number, cell, cellsOf, hexValueOf, threshold, decimalOf, hexOf, line}
+use Rattle.scope.specs.Program.{wrongDeck, wrongPairs, readLine, readLines, readInput, deckRefusal, cutLines, sheetText, program}
+
+-- a case, by the call that it makes; every lent slice has the room of ten rows and more
+data Case : Type 0 where
+  allowedRows : (m start stop : ℕ) → List ℕ → Case
+  gainAt : List ℕ → (start stop split : ℕ) → Case
+  bestSplit : List ℕ → ℕ → Case
+  sheetOf : String → Case
+  cutsOf : List ℕ → ℕ → Float → Case
+  countsAt : List ℕ → ℕ → ℕ → ℕ → Case
+  permuted : List Float → Float → ℕ → Float → ℕ → List ℕ → Case
+  seededBy : ℕ → Float → Case
+  lengthOf : Float → ℕ → Case
+  guessesOf : (m start stop : ℕ) → Option (List ℕ) → Case
+
+-- what is seen of it
+data Seen : Type 0 where
+  rows : Answer ℕ → List ℕ → Seen
+  gain : Answer Float → Seen
+  split : Answer Split → Seen
+  text : List ℕ → Seen
+  tree : Answer Counts → List ℕ → Seen
+  predicted : List ℕ → List Float → Seen
+  tested : Answer Tested → Seen
+  segments : List Segment → Seen
+  least : Answer ℕ → Seen
+  guessed : Answer (List ℕ) → Seen
+
+abbrev room : ℕ
+room = 64
+
+ample : Room
+ample = record { sums = room; records = room; nodes = room; cuts = room }
+
+-- one column of whole numbers
+column : List ℕ → List Float
+column = map whole
+
+run : Case → Seen
+unfolding column ample
+run (allowedRows m start stop forbidden) = rows (candidatesAnswer 10 m forbidden start stop room) (candidatesTold 10 m forbidden start stop room)
+run (gainAt cells start stop x) = gain (gainAnswer (column cells) (length cells) 1 start stop x room)
+run (bestSplit cells m) = split (searchAnswer (column cells) (length cells) 1 m [] 0 (length cells) room)
+run (sheetOf input) = text (program (bytes input))
+run (cutsOf cells m t) = tree (treeAnswer (column cells) (length cells) 1 m t [] [] ample) (treeCuts (column cells) (length cells) 1 m t [] [] ample)
+run (countsAt cells start stop x) =
+    predicted (map (countOf (column cells) (length cells) 1 start stop x) (upward start (length cells))) (predictTold (column cells) (length cells) 1 start stop x room room room)
+run (permuted deltas base m maximum P permutations) = tested (permutationAnswer m (ofBits binary64 0x3fa9_9999_9999_999a) P maximum 1 (base ∷ []) (deltas ∷ []) permutations)
+run (seededBy n v) = segments (seeded n (v ∷ []))
+run (lengthOf r n) = least (lengthAnswer r n)
+run (guessesOf m start stop forbidden) = guessed (guessesAnswer 10 m forbidden start stop)
+
+-- [start, stop)
+from : ℕ → ℕ → Segment
+from start stop = record { start = start; stop = stop }
+
+-- a case and what is to be seen
+record Marked : Type 0 where
+  case : Case
+  seen : Seen
+
+marked : List Marked
+unfolding from
+marked =
+    -- M1 [0,10), m=3: 3 to 6
+    record { case = allowedRows 3 0 10 []; seen = rows (given 4) (3 ∷ 4 ∷ 5 ∷ 6 ∷ []) }
+    -- M2 m=5: refusal 9
+    ∷ record { case = allowedRows 5 0 10 []; seen = rows (refused 9) [] }
+    -- M3 [0,9), m=4: only 4
+    ∷ record { case = allowedRows 4 0 9 []; seen = rows (given 1) (4 ∷ []) }
+    -- M4 M1 with (3,5): 3, 6
+    ∷ record { case = allowedRows 3 0 10 (3 ∷ 5 ∷ []); seen = rows (given 2) (3 ∷ 6 ∷ []) }
+    -- M5 M1 with (0,9): refusal 10
+    ∷ record { case = allowedRows 3 0 10 (0 ∷ 9 ∷ []); seen = rows (refused 10) [] }
+    -- M6 rows 0,0,8,0,0, m=1: gains at 2 and 3 both 256/30 rounded; 2 wins
+    ∷ record { case = gainAt (0 ∷ 0 ∷ 8 ∷ 0 ∷ 0 ∷ []) 0 5 2; seen = gain (given (whole 256 ⊘ whole 30)) }
+    ∷ record { case = gainAt (0 ∷ 0 ∷ 8 ∷ 0 ∷ 0 ∷ []) 0 5 3; seen = gain (given (ofBits binary64 0x4021_1111_1111_1111)) }
+    ∷ record { case = bestSplit (0 ∷ 0 ∷ 8 ∷ 0 ∷ 0 ∷ []) 1; seen = split (given (record { split = 2; gain = whole 256 ⊘ whole 30 })) }
+    -- M7 the program's case
+    ∷ record {
+      case = sheetOf "cfg\t8\t1\t1\t4024000000000000\nrow\t0\nrow\t0\nrow\t0\nrow\t0\nrow\t8\nrow\t8\nrow\t8\nrow\t8\n";
+      seen = text (bytes "cuts\t1\ncut\t4\t4060000000000000\t0\t8\nnodes\t3\n");
+    }
+    -- M8 five zero rows, m=1, threshold -1: cuts 1,2,3, 7 nodes
+    ∷ record { case = cutsOf (replicate 5 0) 1 (fin true 1 (pos 0)); seen = tree (given (record { nodes = 7; records = 3; cuts = 3 })) (1 ∷ 2 ∷ 3 ∷ []) }
+    -- M9 rows 0,1,3,7, [0,4), split 2: counts 1,1,0,1 of k=2
+    ∷ record {
+      case = countsAt (0 ∷ 1 ∷ 3 ∷ 7 ∷ []) 0 4 2;
+      seen = predicted (1 ∷ 1 ∷ 0 ∷ 1 ∷ []) ((whole 1 ⊘ whole 2) ∷ (whole 1 ⊘ whole 2) ∷ (whole 0 ⊘ whole 2) ∷ (whole 1 ⊘ whole 2) ∷ []);
+    }
+    -- M10 deltas 1,0,-1, base 0, m=1, maximum 1, permutations 210, 012, 102: counter 3, p = 0.75
+    ∷ record {
+      case = permuted (fin false 1 (pos 0) ∷ fin false 0 (pos 0) ∷ fin true 1 (pos 0) ∷ []) (fin false 0 (pos 0)) 1 (fin false 1 (pos 0)) 3 (2 ∷ 1 ∷ 0 ∷ 0 ∷ 1 ∷ 2 ∷ 1 ∷ 0 ∷ 2 ∷ []);
+      seen = tested (given (record { counted = 3; p = fin false 3 (negsuc 1); significant = false }));
+    }
+    -- M11 n=20, v=0.5: [0,10) [5,15) [10,20)
+    ∷ record { case = seededBy 20 (fin false 1 (negsuc 0)); seen = segments (from 0 10 ∷ from 5 15 ∷ from 10 20 ∷ []) }
+    -- v = 0.25: starts 0, 2, 5, 7, 10, 12, 15, length 5
+    ∷ record {
+      case = seededBy 20 (fin false 1 (negsuc 1));
+      seen = segments (from 0 5 ∷ from 2 7 ∷ from 5 10 ∷ from 7 12 ∷ from 10 15 ∷ from 12 17 ∷ from 15 20 ∷ []);
+    }
+    -- r = 0.07, n = 100 gives 8
+    ∷ record { case = lengthOf (ofBits binary64 0x3fb1_eb85_1eb8_51ec) 100; seen = least (given 8) }
+    -- for the slips: sums start at row 0, "so a late segment's bits depend on earlier rows": after 2^53 the 1 is lost, and [1,4) has no gain at 2
+    ∷ record { case = gainAt (9007199254740992 ∷ 1 ∷ 0 ∷ 0 ∷ []) 1 4 2; seen = gain (given (whole 0)) }
+    -- and an empty forbidden list is not the same as none: M1's rows
+    ∷ record { case = guessesOf 3 0 10 (some []); seen = guessed (given (4 ∷ 5 ∷ 6 ∷ [])) }
+    ∷ record { case = guessesOf 3 0 10 none; seen = guessed (given (5 ∷ [])) }
+    ∷ []
+
+-- M1 to M11, and the three rows for the slips
+marked-right : map (λ (c : Marked). run (c .case)) marked ≡ map (λ (c : Marked). c .seen) marked
+unfolding run marked add sub mul div ofInt ofBits toBits lt le isNan upward select every outside wrongMatrix isBetween wellPaired wrongLayers wrongSegment wrongSplit allBarred wrongPermutations wrongLengths wrongDeck wrongPairs nearestOf truncation ceiling minimalLength wholeRoot isBarred rangeSize candidates flatSums prefixSums term terms innerGain gainOf better best trials search layerLength layerCount layerStep layerStart layerStop layerSegments seeded layersTotal stored seedRecords inside choice verdict grow grown recordsOf nodeCount nodes cuts sheet difference squares distances insert ordered orderOf others neighbours countOf predictions isPermutation addDeltas added reaches exceeds counter lengthAnswer candidatesRefusal candidatesAnswer candidatesTold gainRefusal gainAnswer searchRefusal searchAnswer treeRefusal treeAnswer treeCuts predictRefusal predictTold guesses guessesAnswer permutationAnswer bytes same parts valueOf number cell cellsOf hexValueOf threshold decimalOf hexOf line readLine readLines readInput deckRefusal cutLines sheetText program flatten
+marked-right = refl

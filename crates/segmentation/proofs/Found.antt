@@ -1,0 +1,33 @@
+-- A search's answer, in the code's own type: its record is that of `search`, or there is none. Assumes nothing.
+use mathlib.Core.Path.{_≡_}
+use mathlib.Core.List.{List}
+use mathlib.Core.Option.{none, some}
+use Prim.Native.Nat.{ℕ}
+use native.Mathlib.Omega.{arith}
+use lib.Ieee.{Float}
+use Rattle.scope.specs.Refusals.{Answer, refused, given}
+use Rattle.scope.specs.Grid.{search}
+use Rattle.scope.specs.Calls.{Split}
+use Rattle.rows.specs.declared.Position.{Position}
+use Rattle.optimizer.specs.declared.optimizer_result.BestSplit.the-variants.{Found, Refused}
+use Rattle.optimizer.specs.Records.{bestSplitOf, searched}
+use Rattle.optimizer.proofs.Found.{found-search, refused-search}
+
+found-given : (a : Answer Split) (p : Position) (v : Float) → bestSplitOf a ≡ Found p v → a ≡ given (record { split = p .0; gain = v })
+found-given (refused k) p v h = let z : _≡_ {A = ℕ} 0 1 = cc in absurd (omega arith)
+found-given (given s) p v h =
+    let w : _≡_ {A = Position} (record { 0 = s .split }) p = cc in
+    let g : s .gain ≡ v = cc in
+    λ i. given (record { split = w i .0; gain = g i })
+
+refused-number : (a : Answer Split) (k : ℕ) → bestSplitOf a ≡ Refused k → a ≡ refused k
+refused-number (refused j) k h = cc
+refused-number (given s) k h = let z : _≡_ {A = ℕ} 0 1 = cc in absurd (omega arith)
+
+module _ (gain : ℕ → ℕ → ℕ → Float) (m : ℕ) (forbidden : List ℕ) (start stop : ℕ) where
+  pub found-record : (p : Position) (v : Float) → bestSplitOf (searched gain m forbidden start stop) ≡ Found p v
+      → search gain m forbidden start stop ≡ some (record { start = start; stop = stop; split = p .0; gain = v })
+  found-record p v h = found-search gain m forbidden start stop _ (found-given (searched gain m forbidden start stop) p v h)
+
+  pub refused-none : (k : ℕ) → bestSplitOf (searched gain m forbidden start stop) ≡ Refused k → search gain m forbidden start stop ≡ none
+  refused-none k h = refused-search gain m forbidden start stop k (refused-number (searched gain m forbidden start stop) k h)

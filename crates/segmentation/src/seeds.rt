@@ -1,0 +1,108 @@
+// The seeded segments, searched beforehand: their records, in order, in lent memory. After segmentation.rs, "SBS"; no layers means "BS".
+use crate::layers::Layer;
+use crate::layers::Segment;
+use crate::records;
+use optimizer::grid_search;
+use optimizer::optimizer_result::BestSplit;
+use optimizer::optimizer_result::GainRecord;
+ghost use mathlib.Core.Path.{_≡_};
+ghost use mathlib.Core.Bool.{false};
+ghost use Prim.Native.Nat.{_+_, _*_, _<_, _≤_};
+ghost use lib.ListN.{length};
+ghost use Rattle.scope.specs.Lists.{holding};
+ghost use Rattle.scope.specs.Refusals.{wrongLayers};
+ghost use Rattle.scope.specs.Layers.{one, seeded, layerSegments, layersTotal};
+ghost use Rattle.segmentation.specs.Flat.{flatRows, gainsOf, Put};
+ghost use Rattle.segmentation.specs.Layer.{Made};
+ghost use Rattle.segmentation.specs.Seeds.{searchOver, storedOver};
+
+// Searches a segment and stores its record at the place `at`; a segment that the search refuses leaves none. Tells the next place.
+fn seed_segment(
+    sums: &[f64],
+    d: usize,
+    m: usize,
+    forbidden: &[usize],
+    segment: Segment,
+    rows: &mut [usize],
+    gains: &mut [f64],
+    at: usize,
+) -> usize
+    requires { ⌜ (segment .start .0 ≤ segment .stop .0) × (segment .stop .0 ≤ 4096) × (m ≤ 4096) ⌝ }
+    requires { ⌜ (segment .stop .0 + 1) * d ≤ length (now sums) ⌝ }
+    requires { ⌜ (3 * at + 3 ≤ length (now rows)) × (at < length (now gains)) ⌝ }
+    ensures { λ r. ⌜ Put (one (searchOver (now (sums .entry)) d m (now (forbidden .entry)) (segment .start .0) (segment .stop .0))) at (now (rows .entry)) (now (gains .entry)) (now (rows .exit)) (now (gains .exit)) r ⌝ }
+{
+    let start = segment.start;
+    let stop = segment.stop;
+    let BestSplit::Found(best_split, max_gain) = grid_search::find_best_split(
+        sums,
+        d,
+        m,
+        forbidden,
+        start,
+        stop,
+    ) else {
+        return at;
+    };
+    let found = GainRecord {
+        start,
+        stop,
+        best_split,
+        max_gain,
+    };
+    records::put_record(rows, gains, at, found);
+    at + 1
+}
+
+// The records of a layer's segments, stored from the place `at` on. Tells the next place.
+fn seed_layer(
+    sums: &[f64],
+    d: usize,
+    m: usize,
+    forbidden: &[usize],
+    layer: Layer,
+    rows: &mut [usize],
+    gains: &mut [f64],
+    at: usize,
+) -> usize
+    requires { ⌜ Made layer × (m ≤ 4096) × ((layer .n + 1) * d ≤ length (now sums)) ⌝ }
+    requires { ⌜ (3 * (at + layer .count) ≤ length (now rows)) × (at + layer .count ≤ length (now gains)) ⌝ }
+    ensures { λ r. ⌜ Put (storedOver (now (sums .entry)) d m (now (forbidden .entry)) (layerSegments (layer .n) (layer .value) (layer .count))) at (now (rows .entry)) (now (gains .entry)) (now (rows .exit)) (now (gains .exit)) r ⌝ }
+{
+    let count = layer.count;
+    let mut next = at;
+    let mut id = 0;
+    while id < count {
+        next = seed_segment(sums, d, m, forbidden, layer.segment(id), rows, gains, next);
+        id += 1;
+    }
+    next
+}
+
+// The stored records: those of all layers' segments, in order. Tells how many.
+pub fn seed_segments(
+    sums: &[f64],
+    n: usize,
+    d: usize,
+    m: usize,
+    forbidden: &[usize],
+    layers: &[f64],
+    rows: &mut [usize],
+    gains: &mut [f64],
+) -> usize
+    requires { ⌜ (n ≤ 4096) × (m ≤ 4096) × ((n + 1) * d ≤ length (now sums)) ⌝ }
+    requires { ⌜ wrongLayers (now layers) ≡ false ⌝ }
+    requires { ⌜ (3 * layersTotal (now layers) ≤ length (now rows)) × (layersTotal (now layers) ≤ length (now gains)) ⌝ }
+    ensures count { λ r. ⌜ r ≡ length (storedOver (now (sums .entry)) d m (now (forbidden .entry)) (seeded n (now (layers .entry)))) ⌝ }
+    ensures rows { λ r. ⌜ now (rows .exit) ≡ holding (flatRows (storedOver (now (sums .entry)) d m (now (forbidden .entry)) (seeded n (now (layers .entry))))) (now (rows .entry)) ⌝ }
+    ensures gains { λ r. ⌜ now (gains .exit) ≡ holding (gainsOf (storedOver (now (sums .entry)) d m (now (forbidden .entry)) (seeded n (now (layers .entry))))) (now (gains .entry)) ⌝ }
+{
+    let mut count = 0;
+    let mut i = 0;
+    while i < layers.len() {
+        let layer = Layer::new(n, layers[i]);
+        count = seed_layer(sums, d, m, forbidden, layer, rows, gains, count);
+        i += 1;
+    }
+    count
+}

@@ -1,0 +1,2 @@
+-- The definitions that the contracts of `token` cite.
+pub mod Walk

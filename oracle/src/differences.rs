@@ -1,0 +1,215 @@
+//! The probes of docs/DIFFERENCES.md: what the Rust does with small inputs that document 01 refuses
+//! or reads otherwise. No rule is asked here. One line for each, `panics` where it does.
+
+#[allow(dead_code)]
+#[path = "oracle/case.rs"]
+mod case;
+#[allow(dead_code)]
+#[path = "oracle/original.rs"]
+mod original;
+
+use case::{Matrix, Perm, Segment};
+use changeforest::optimizer::OptimizerResult;
+use changeforest::{Control, ModelSelectionResult, Optimizer, Segmentation, SegmentationType};
+use std::cell::RefCell;
+use std::fmt::Debug;
+use std::panic::{catch_unwind, AssertUnwindSafe};
+
+const INF: f64 = f64::INFINITY;
+const NAN: f64 = f64::NAN;
+
+fn probe<T: Debug>(name: &str, answer: impl FnOnce() -> T) {
+    match catch_unwind(AssertUnwindSafe(answer)) {
+        Ok(answer) => println!("{name}: {answer:?}"),
+        Err(_) => println!("{name}: panics"),
+    }
+}
+
+fn column(cells: &[f64]) -> Matrix {
+    Matrix { n: cells.len() as u64, d: 1, cells: cells.into() }
+}
+
+fn segment(n: u64, m: u64, start: u64, stop: u64) -> Segment {
+    Segment { n, m, forbidden: None, start, stop }
+}
+
+fn sizes_and_lengths() {
+    probe("relative length NaN, n 4, candidates of [0,4)", || original::relative(NAN, 4, 0, 4));
+    probe("relative length 0", || original::relative(0.0, 4, 0, 4));
+    probe("relative length -0", || original::relative(-0.0, 4, 0, 4));
+    probe("relative length 0.5", || original::relative(0.5, 4, 0, 4));
+    probe("relative length 5e-324, n 1, m", || original::rel(5e-324, 1));
+    probe("relative length just below 0.5, n 4096, m", || {
+        original::rel(0.499_999_999_999_999_94, 4_096)
+    });
+    probe("no rows, nodes", || nodes(&[], 0, -1.0));
+    let none = Matrix { n: 3, d: 0, cells: vec![] };
+    probe("no columns, gain of [0,3) at 1", || original::gain(&none, 0, 3, 1).0);
+    probe("no columns, ordering", || original::order(&none).0);
+    probe("n 4097, zero readings, gain of the run at 1", || {
+        original::gain(&column(&[0.0; 4_097]), 0, 4_097, 1).0
+    });
+}
+
+fn nodes(cells: &[f64], d: u64, threshold: f64) -> usize {
+    let matrix = Matrix { d, ..column(cells) };
+    original::tree(&matrix, 1, threshold, &None, &[]).nodes.len()
+}
+
+fn thresholds() {
+    probe("threshold NaN, rows 0 0 8, nodes", || nodes(&[0.0, 0.0, 8.0], 1, NAN));
+    probe("threshold 1, rows 0 0 8, nodes", || nodes(&[0.0, 0.0, 8.0], 1, 1.0));
+    for alpha in [NAN, 0.0, 1.0] {
+        let case = Perm { alpha, ..permuted(3, 1, &[vec![0.0; 3]], 1.0) };
+        probe(&format!("alpha {alpha}, p and significance"), || {
+            let (_, p, significant) = original::perm(&case);
+            (p, significant)
+        });
+    }
+}
+
+fn cells_and_pairs() {
+    for last in [INF, -INF, NAN] {
+        let matrix = column(&[0.0, 0.0, last]);
+        probe(&format!("rows 0 0 {last}, m 1, split and gain"), || found(&matrix));
+    }
+    probe("rows inf 0 0, m 1, split and gain", || found(&column(&[INF, 0.0, 0.0])));
+    probe("rows NaN 0, ordering", || original::order(&column(&[NAN, 0.0])).0);
+    probe("rows inf inf, ordering", || original::order(&column(&[INF, INF])).0);
+    probe("rows inf 0, ordering", || original::order(&column(&[INF, 0.0])).0);
+    let crossed = Segment { forbidden: Some(vec![2, 1]), ..segment(4, 1, 0, 4) };
+    probe("forbidden pair (2,1)", || original::cand(&crossed));
+}
+
+fn found(matrix: &Matrix) -> (usize, f64) {
+    let found = original::search(matrix, &segment(3, 1, 0, 3));
+    (found.split, found.gain)
+}
+
+fn ends_and_splits() {
+    probe("candidates of [3,1), m 1", || original::cand(&segment(4, 1, 3, 1)));
+    probe("candidates of [0,6), n 4, m 1", || original::cand(&segment(4, 1, 0, 6)));
+    let rows = column(&[0.0, 1.0, 3.0, 7.0]);
+    probe("gain of [1,3) at 0", || original::gain(&rows, 1, 3, 0).0);
+    probe("gain of [0,2) at 3", || original::gain(&rows, 0, 2, 3).0);
+    probe("gain of [2,2) at 2", || original::gain(&rows, 2, 2, 2).0);
+    probe("gain of [0,5) at 2, n 4", || original::gain(&rows, 0, 5, 2).0);
+    probe("neighbours in [2,2), split 2", || original::knn(&rows, 2, 2, 2));
+    probe("neighbours in [1,3), split 0", || original::knn(&rows, 1, 3, 0));
+    probe("neighbours in [1,3), split 4", || original::knn(&rows, 1, 3, 4));
+    probe("neighbours in [3,1), split 2", || original::knn(&rows, 3, 1, 2));
+    probe("neighbours in [0,5), split 2, n 4", || original::knn(&rows, 0, 5, 2));
+}
+
+fn picks() {
+    let three = segment(3, 1, 0, 3);
+    probe("pick of [0,3), m 1, guess 0, all NaN", || original::pick(&three, 0, &[NAN; 3]));
+    probe("pick of [0,3), m 1, guess 1, curve of 1", || original::pick(&three, 1, &[0.0]));
+    probe("pick of [0,3), m 1, guess 1, curve of 4", || original::pick(&three, 1, &[0.0; 4]));
+    probe("curve of no likelihoods", || original::curve(&[], &[]));
+}
+
+/// One permutation in place, alpha 0.5, base 0 for every curve.
+fn permuted(l: usize, m: u64, deltas: &[Vec<f64>], max: f64) -> Perm {
+    Perm {
+        m,
+        alpha: 0.5,
+        p: 1,
+        max,
+        k: deltas.len() as u64,
+        bases: vec![0.0; deltas.len()],
+        deltas: deltas.into(),
+        perms: (0..l as u64).collect(),
+    }
+}
+
+fn permutations() {
+    let counter = |l: usize, m: u64, deltas: &[Vec<f64>], max: f64| {
+        original::permuted(&permuted(l, m, deltas, max), l).0
+    };
+    let two = [vec![1.0, 0.0]];
+    probe("L 2, m 1, deltas 1 0, maximum 1, counter", || counter(2, 1, &two, 1.0));
+    probe("L 2, m 2, deltas 1 0, maximum 1, counter", || counter(2, 2, &two, 1.0));
+    probe("L 2, m 0, deltas 1 0, maximum 1, counter", || counter(2, 0, &two, 1.0));
+    probe("L 1, m 1, delta 1, maximum 1, counter", || counter(1, 1, &[vec![1.0]], 1.0));
+    probe("L 3, m 1, no curve, counter", || counter(3, 1, &[], 1.0));
+    let four = vec![vec![0.0; 3], vec![0.0; 3], vec![0.0; 3], vec![1.0; 3]];
+    probe("L 3, m 1, four curves, counter", || counter(3, 1, &four, 1.0));
+    let infinite = [vec![INF, 0.0, 0.0]];
+    probe("L 3, m 1, deltas inf 0 0, maximum 1, counter", || counter(3, 1, &infinite, 1.0));
+    probe("L 3, m 1, deltas NaN 0 0, maximum 1, counter", || {
+        counter(3, 1, &[vec![NAN, 0.0, 0.0]], 1.0)
+    });
+}
+
+/// Stands for a search: keeps what segments it is asked for, and gives up after many.
+struct Asked {
+    control: Control,
+    segments: RefCell<Vec<(usize, usize)>>,
+}
+
+const MANY: usize = 1_000_000;
+
+impl Optimizer for Asked {
+    fn n(&self) -> usize {
+        4
+    }
+    fn control(&self) -> &Control {
+        &self.control
+    }
+    fn find_best_split(&self, start: usize, stop: usize) -> Result<OptimizerResult, &str> {
+        self.segments.borrow_mut().push((start, stop));
+        assert!(self.segments.borrow().len() <= MANY);
+        Err("not searched")
+    }
+    fn model_selection(&self, _: &OptimizerResult) -> ModelSelectionResult {
+        unreachable!()
+    }
+}
+
+fn layers() {
+    for value in [0.5, 1.0, 2.0, 0.0, NAN, -0.5, INF] {
+        let mut control = Control::default();
+        control.lent_layers = vec![value];
+        let asked = Asked { control, segments: RefCell::default() };
+        let new = || drop(Segmentation::new(SegmentationType::SBS, &asked));
+        let ended = catch_unwind(AssertUnwindSafe(new)).is_ok();
+        let segments = asked.segments.into_inner();
+        match (ended, segments.len()) {
+            (true, _) => println!("layer {value}, n 4: {segments:?}"),
+            (false, 0) => println!("layer {value}, n 4: panics"),
+            (false, _) => println!("layer {value}, n 4: more than {MANY} segments"),
+        }
+    }
+    probe("layer 1/5000, n 4, records", || {
+        original::tree(&column(&[0.0; 4]), 1, 0.0, &None, &[1.0 / 5000.0]).records.len()
+    });
+    probe("65 layers of 0.5, n 6, m 1, records", || {
+        original::tree(&column(&[0.0; 6]), 1, 0.0, &None, &[0.5; 65]).records.len()
+    });
+}
+
+/// powi(2) is one product, on bit patterns of every sort.
+fn square() {
+    let mut state: u64 = 1;
+    let unequal = (0..MANY).filter(|_| {
+        state =
+            state.wrapping_mul(6_364_136_223_846_793_005).wrapping_add(1_442_695_040_888_963_407);
+        let value = f64::from_bits(state ^ (state >> 33));
+        let (power, product) = (changeforest::utils::square(value), value * value);
+        power.to_bits() != product.to_bits() && !(power.is_nan() && product.is_nan())
+    });
+    println!("powi(2) unequal to one product, of {MANY} patterns: {}", unequal.count());
+}
+
+fn main() {
+    std::panic::set_hook(Box::new(|_| ()));
+    sizes_and_lengths();
+    thresholds();
+    cells_and_pairs();
+    ends_and_splits();
+    picks();
+    permutations();
+    layers();
+    square();
+}

@@ -1,0 +1,89 @@
+//! A case before it is written: the fields of every kind, and the line of each.
+
+#[derive(Default)]
+pub struct Draft {
+    pub kind: &'static str,
+    pub short: Option<(u64, u64)>,
+    pub n: u64,
+    pub d: u64,
+    pub m: u64,
+    pub start: u64,
+    pub stop: u64,
+    /// The split, or the guess.
+    pub split: u64,
+    pub forbidden: Option<Vec<u64>>,
+    /// The relative length, the value to narrow, the threshold or alpha.
+    pub value: f64,
+    pub max: f64,
+    pub layers: Vec<f64>,
+    pub cells: Vec<f64>,
+    /// Both likelihood rows, the pick's curve, or the deltas.
+    pub curves: Vec<Vec<f64>>,
+    pub bases: Vec<f64>,
+    pub p: u64,
+    pub perms: Vec<u64>,
+}
+
+fn bits(value: f64) -> String {
+    format!("{:016x}", value.to_bits())
+}
+
+fn joined(entries: impl Iterator<Item = String>) -> String {
+    entries.collect::<Vec<_>>().join(" ")
+}
+
+fn list<T: Copy>(entries: &[T], show: fn(T) -> String) -> String {
+    let count = std::iter::once(entries.len().to_string());
+    joined(count.chain(entries.iter().map(|entry| show(*entry))))
+}
+
+fn numbers(entries: &[u64]) -> String {
+    list(entries, |number| number.to_string())
+}
+
+fn values(entries: &[f64]) -> String {
+    list(entries, bits)
+}
+
+impl Draft {
+    fn ends(&self) -> String {
+        let forbidden = self.forbidden.as_deref().map_or("-".into(), numbers);
+        format!("{} {forbidden} {} {}", self.m, self.start, self.stop)
+    }
+
+    fn fields(&self) -> String {
+        let (n, d, cells) = (self.n, self.d, values(&self.cells));
+        let (start, stop, split) = (self.start, self.stop, self.split);
+        match self.kind {
+            "rel" => format!("{} {n}", bits(self.value)),
+            "f32" => bits(self.value),
+            "cand" | "guesses" => format!("{n} {}", self.ends()),
+            "gain" | "knn" => format!("{n} {d} {start} {stop} {split} {cells}"),
+            "search" => format!("{n} {d} {} {cells}", self.ends()),
+            "tree" => {
+                let forbidden = self.forbidden.as_deref().map_or("-".into(), numbers);
+                let (threshold, layers) = (bits(self.value), values(&self.layers));
+                format!("{n} {d} {} {threshold} {forbidden} {layers} {cells}", self.m)
+            }
+            "order" => format!("{n} {d} {cells}"),
+            "curve" => format!("{} {}", values(&self.curves[0]), values(&self.curves[1])),
+            "pick" => format!("{n} {} {split} {}", self.ends(), values(&self.curves[0])),
+            "perm" => self.perm(),
+            _ => unreachable!(),
+        }
+    }
+
+    fn perm(&self) -> String {
+        let (alpha, max, count) = (bits(self.value), bits(self.max), self.curves.len());
+        let bases = self.bases.iter().map(|base| bits(*base));
+        let deltas = self.curves.iter().map(|curve| values(curve));
+        let curves = joined(bases.chain(deltas).chain([numbers(&self.perms)]));
+        format!("{} {alpha} {} {max} {count} {curves}", self.m, self.p)
+    }
+
+    pub fn line(&self) -> String {
+        let short =
+            self.short.map_or(String::new(), |(slice, less)| format!("short {slice} {less} "));
+        format!("{short}{} {}", self.kind, self.fields())
+    }
+}

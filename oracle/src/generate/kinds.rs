@@ -1,0 +1,288 @@
+//! A case of each kind, most of them small; few at the limits of document 01.
+
+use crate::draft::Draft;
+use crate::random::Random;
+use crate::values;
+
+pub const KINDS: [&str; 12] = [
+    "rel", "f32", "cand", "gain", "search", "tree", "order", "knn", "curve", "pick", "guesses",
+    "perm",
+];
+
+pub const FAR: [u64; 4] = [u64::MAX, u64::MAX - 1, 1 << 63, 1 << 40];
+
+fn rows(random: &mut Random) -> u64 {
+    match random.weighted(&[400, 400, 60, 3]) {
+        0 => random.between(1, 12),
+        1 => random.between(13, 30),
+        2 => random.between(31, 80),
+        _ => random.between(81, 400),
+    }
+}
+
+fn columns(random: &mut Random, n: u64) -> u64 {
+    let most = match random.weighted(&[50, 40, 8, 1]) {
+        0 => 1,
+        1 => random.between(2, 3),
+        2 => random.between(4, 8),
+        _ => random.between(9, 64),
+    };
+    if n * most > 2_000 {
+        1
+    } else {
+        most
+    }
+}
+
+fn matrix(random: &mut Random, draft: &mut Draft, n: u64, d: u64) {
+    (draft.n, draft.d) = (n, d);
+    draft.cells = values::cells(random, n, d);
+}
+
+fn ends(random: &mut Random, draft: &mut Draft) {
+    (draft.start, draft.stop) = (0, draft.n);
+    if random.one_in(2) {
+        let most = random.of(&[draft.n - 1, draft.n / 2, draft.n / 3]);
+        draft.start = random.between(0, most);
+        let least = random.of(&[draft.start, (draft.start + draft.n) / 2]);
+        draft.stop = random.between(least, draft.n);
+    }
+}
+
+/// A segment of the draft's rows, an m that mostly leaves candidates, a forbidden list.
+fn segment(random: &mut Random, draft: &mut Draft) {
+    ends(random, draft);
+    let most = (draft.stop - draft.start) / 2;
+    draft.m = match random.weighted(&[5, 4, 1]) {
+        0 => 1,
+        1 => random.between(1, (most / 2).max(1)),
+        _ => random.between(1, most + 1),
+    };
+    draft.forbidden = forbidden(random, draft.n);
+}
+
+fn pair(random: &mut Random, n: u64) -> [u64; 2] {
+    let a = random.below(n + 1);
+    [a, random.between(a, n)]
+}
+
+/// Forbidden lists of every kind that isn't refused.
+fn forbidden(random: &mut Random, n: u64) -> Option<Vec<u64>> {
+    let few = random.between(1, 4);
+    Some(match random.weighted(&[30, 14, 20, 8, 5, 5, 5, 3, 5, 5, 1]) {
+        0 => return None,
+        1 => vec![],
+        2 => {
+            let mut short = |_| {
+                let a = random.below(n + 1);
+                [a, a + random.below(4)]
+            };
+            (0..few).flat_map(&mut short).collect()
+        }
+        3 => (0..few).flat_map(|_| pair(random, n)).collect(),
+        4 => (0..few).flat_map(|_| [random.below(n + 1); 2]).collect(),
+        5 => (0..random.between(5, 20)).flat_map(|_| pair(random, n)).collect(),
+        6 => vec![random.below(n + 1), n + random.between(1, 9), n + 1, u64::MAX],
+        7 => random.of(&[vec![0, n], vec![0, u64::MAX]].each_ref()).clone(),
+        8 => {
+            let kept = random.between(1, n);
+            vec![0, kept - 1, kept, n]
+        }
+        9 => vec![random.of(&FAR) - 1, u64::MAX, u64::MAX, u64::MAX],
+        _ => (0..n.min(128)).rev().flat_map(|a| [a, a + a % 2]).collect(),
+    })
+}
+
+fn threshold(random: &mut Random) -> f64 {
+    match random.weighted(&[4, 4, 2, 2]) {
+        0 => random.of(&[-1.0, 0.0, -0.0, 0.5, 1.0, 10.0]),
+        1 => (random.below(200) as f64) / 16.0,
+        2 => random.of(&[f64::INFINITY, f64::NEG_INFINITY, f64::MAX, 1e300, 5e-324]),
+        _ => {
+            let sort = values::sort(random);
+            values::value(random, sort)
+        }
+    }
+}
+
+fn curve(random: &mut Random, draft: &mut Draft) {
+    let length = random.between(1, 30);
+    draft.curves = vec![values::values(random, length), values::values(random, length)];
+}
+
+/// The pick's curve may hold infinities and NaN.
+fn pick(random: &mut Random, draft: &mut Draft) {
+    let length = draft.stop - draft.start;
+    let mut curve = values::values(random, length);
+    let often = random.of(&[0, 0, 1, 4]);
+    for value in &mut curve {
+        if often > 0 && random.one_in(often) {
+            *value = values::not_finite(random);
+        }
+    }
+    if random.one_in(20) {
+        curve.fill(random.of(&[f64::NAN, f64::NEG_INFINITY, f64::INFINITY]));
+    }
+    draft.curves = vec![curve];
+    let first = draft.start.saturating_add(draft.m);
+    let count = (draft.stop - draft.start).saturating_sub(2 * draft.m).max(1);
+    draft.split = first + random.below(count);
+}
+
+fn perm(random: &mut Random, draft: &mut Draft) {
+    let length = random.of(&[1, 2, 3, 3, 4, 4, 5, 5, 6, 7, 8, 9, 12, 20]);
+    let count = random.between(1, 3);
+    draft.m = random.between(1, ((length - 1) / 2).max(1));
+    draft.p = random.between(0, 6);
+    draft.curves = (0..count).map(|_| values::values(random, length)).collect();
+    draft.bases = values::values(random, count);
+    permutations(random, draft, length);
+    draft.max = maximum(random, draft);
+    let share = random.between(1, draft.p + 1) as f64 / (draft.p + 1) as f64;
+    draft.value = random.of(&[0.02, 0.05, 0.5, 0.75, 1.0 - 1e-16, 5e-324, share, share]);
+    if draft.value >= 1.0 {
+        draft.value = 0.999;
+    }
+}
+
+pub fn permutations(random: &mut Random, draft: &mut Draft, length: u64) {
+    draft.perms = vec![];
+    for _ in 0..draft.p {
+        let mut one: Vec<u64> = (0..length).collect();
+        random.shuffle(&mut one);
+        draft.perms.extend(one);
+    }
+}
+
+/// Often a sum that some permutation reaches, so that the first sum that isn't below it counts.
+fn maximum(random: &mut Random, draft: &Draft) -> f64 {
+    let which = random.below(draft.curves.len() as u64) as usize;
+    let curve = &draft.curves[which];
+    let mut sum = draft.bases[which];
+    let places = draft.perms.iter().take(random.between(0, curve.len() as u64) as usize);
+    for place in places {
+        sum += curve[*place as usize];
+    }
+    if sum.is_finite() && !random.one_in(5) {
+        sum
+    } else {
+        let sort = values::sort(random);
+        values::value(random, sort)
+    }
+}
+
+fn relative(random: &mut Random, n: u64) -> f64 {
+    let sort = values::sort(random);
+    let any = values::value(random, sort).abs();
+    let below = f64::from_bits(0.5_f64.to_bits() - 1);
+    let hundredths = random.between(1, 49) as f64 / 100.0;
+    let fraction = 1.0 / random.between(3, 5_000) as f64;
+    let whole = random.between(1, n) as f64 / (2 * n) as f64;
+    let near = values::beside(random, whole);
+    random.of(&[hundredths, hundredths, fraction, whole, near, near, below, 5e-324, any / 4.0])
+}
+
+fn narrow(random: &mut Random) -> f64 {
+    let single = f32::from_bits(random.bits() as u32);
+    let wide = f64::from(if single.is_nan() { f32::MAX } else { single });
+    let half = f64::from_bits(wide.to_bits() + (1 << 28));
+    let edges = [f64::MAX, f64::INFINITY, f64::NAN, -0.0, f64::from_bits(0x47ef_ffff_f000_0000)];
+    match random.weighted(&[3, 3, 3, 2, 1, 2]) {
+        0 => wide,
+        1 => half,
+        2 => f64::from_bits(half.to_bits().wrapping_add(random.between(0, 2)).wrapping_sub(1)),
+        3 => f64::from_bits(random.bits()),
+        4 => random.of(&edges),
+        _ => {
+            let small = (random.bits() >> 12) | (random.between(0x360, 0x382) << 52);
+            f64::from_bits(small | (random.below(2) << 63))
+        }
+    }
+}
+
+pub fn draft(random: &mut Random, kind: &'static str) -> Draft {
+    let n = rows(random);
+    let mut draft = Draft { kind, n, ..Draft::default() };
+    if matches!(kind, "gain" | "search" | "tree" | "order" | "knn") {
+        let n = if matches!(kind, "order" | "knn") { n.min(100) } else { n };
+        let d = columns(random, n);
+        matrix(random, &mut draft, n, d);
+    }
+    match kind {
+        "rel" => {
+            let any = random.between(1, 4_096);
+            draft.n = random.of(&[n, any, 4_096, 100]);
+            draft.value = relative(random, draft.n);
+        }
+        "f32" => draft.value = narrow(random),
+        "cand" | "search" | "guesses" => segment(random, &mut draft),
+        "gain" | "knn" => {
+            ends(random, &mut draft);
+            draft.split = random.between(draft.start, draft.stop);
+        }
+        "tree" => {
+            segment(random, &mut draft);
+            draft.value = threshold(random);
+            draft.layers = values::layers(random);
+        }
+        "order" => (),
+        "curve" => curve(random, &mut draft),
+        "pick" => {
+            segment(random, &mut draft);
+            pick(random, &mut draft);
+        }
+        "perm" => perm(random, &mut draft),
+        _ => unreachable!(),
+    }
+    draft
+}
+
+/// A case at a limit of document 01, or of the page's capacities.
+pub fn at_limit(random: &mut Random, kind: &'static str) -> Draft {
+    let mut draft = draft(random, kind);
+    match kind {
+        "gain" | "search" | "tree" => {
+            let (n, d) = random.of(&[(4_096, 1), (4_095, 1), (256, 60), (255, 64), (4_096, 4)]);
+            matrix(random, &mut draft, n, d);
+            (draft.start, draft.stop, draft.m) = (0, n, random.of(&[1, 7, n / 2 - 1]));
+            draft.split = random.between(0, n);
+            if d > 1 {
+                draft.forbidden = None;
+            }
+            if random.one_in(4) {
+                draft.layers = random.of(&[&[1.0 / 4096.0; 3][..], &[0.5; 64], &[0.5; 101]]).into();
+            } else if d == 1 && random.one_in(2) {
+                (draft.cells, draft.value) = (vec![0.0; n as usize], -1.0);
+            }
+        }
+        "order" | "knn" => {
+            let n = random.of(&[256, 512, 513, 1_024]);
+            matrix(random, &mut draft, n, 1);
+            (draft.start, draft.stop, draft.split) = (0, n, n / 2);
+        }
+        "curve" => {
+            let length = random.of(&[4_096, 4_097, 4_098]);
+            draft.curves = vec![values::values(random, length), values::values(random, length)];
+        }
+        "cand" | "guesses" | "pick" => {
+            (draft.n, draft.start, draft.stop) = (4_096, 0, 4_096);
+            draft.m = random.of(&[1, 2_047, 2_048, 4_096]);
+            if random.one_in(2) {
+                draft.forbidden = Some((0..random.of(&[256, 258])).collect());
+            }
+            if kind == "pick" {
+                pick(random, &mut draft);
+            }
+        }
+        "perm" => {
+            let (p, length) = random.of(&[(999, 16), (3, 4_096), (4, 4_096), (3, 4_097)]);
+            (draft.p, draft.m) = (p, random.of(&[1, 7]));
+            draft.curves = vec![values::values(random, length)];
+            draft.bases = vec![0.0];
+            permutations(random, &mut draft, length);
+            draft.max = maximum(random, &draft);
+        }
+        _ => (),
+    }
+    draft
+}

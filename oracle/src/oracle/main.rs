@@ -1,0 +1,68 @@
+//! oracle [--source]: answers each case of standard input (docs/REPLAY.md) with the original Rust;
+//! `--source` adds where the answer comes from: rust, rules or line.
+//! oracle deck: the text program, standard input to standard output.
+
+mod answer;
+mod case;
+mod deck;
+mod original;
+mod room;
+mod rules;
+
+use std::io::{stdin, stdout, BufRead, BufWriter, Read, Result, Write};
+use std::process::exit;
+
+/// A tree of 4,096 rows can be thousands deep, and the Rust grows it by calling itself.
+const STACK: usize = 1 << 30;
+
+fn answers(with_source: bool) -> Result<()> {
+    let (mut input, mut output) = (stdin().lock(), BufWriter::new(stdout().lock()));
+    let mut line = vec![];
+    while input.read_until(b'\n', &mut line)? > 0 {
+        let answer = answer::answer(&line).unwrap_or_else(|why| {
+            eprintln!("oracle: {why}: {}", String::from_utf8_lossy(&line).trim_end());
+            exit(1)
+        });
+        match with_source {
+            true => writeln!(output, "{} {}", answer.text, answer.source)?,
+            false => writeln!(output, "{}", answer.text)?,
+        }
+        line.clear();
+    }
+    output.flush()
+}
+
+fn deck() -> Result<()> {
+    let mut input = vec![];
+    stdin().lock().read_to_end(&mut input)?;
+    stdout().lock().write_all(deck::sheet(&input).as_bytes())
+}
+
+fn run() -> Result<()> {
+    let arguments: Vec<String> = std::env::args().skip(1).collect();
+    match arguments.iter().map(String::as_str).collect::<Vec<_>>()[..] {
+        [] => answers(false),
+        ["--source"] => answers(true),
+        ["deck"] => deck(),
+        _ => {
+            eprintln!("oracle [--source] | oracle deck");
+            exit(2)
+        }
+    }
+}
+
+fn main() {
+    std::panic::set_hook(Box::new(|_| ()));
+    let thread = std::thread::Builder::new().stack_size(STACK).spawn(run);
+    match thread.expect("a thread starts").join() {
+        Ok(Ok(())) => (),
+        Ok(Err(why)) => {
+            eprintln!("oracle: {why}");
+            exit(1)
+        }
+        Err(_) => {
+            eprintln!("oracle: the Rust panics");
+            exit(1)
+        }
+    }
+}

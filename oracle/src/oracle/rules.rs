@@ -1,0 +1,236 @@
+//! The refusals: a second reading of document 01 ("Refusal numbers", "Sizes") and of the decisions
+//! that go with it, made for the oracle alone. Nothing here is taken from the Rust, which has few
+//! refusals, nor from the code that the oracle judges. Rule by rule, in number order.
+
+use crate::case::{Case, Forbidden, Matrix, Perm, Segment};
+
+const MOST_ROWS: u64 = 4_096;
+const MOST_NEIGHBOUR_ROWS: u64 = 1_024;
+const MOST_COLUMNS: u64 = 64;
+const MOST_M: u64 = 4_096;
+const MOST_LAYERS: usize = 64;
+const SMALLEST_LAYER: f64 = 1.0 / 4096.0;
+const MOST_PERMUTATIONS: u64 = 999;
+const MOST_CURVES: u64 = 3;
+const LONGEST_CURVE: usize = 4_096;
+
+/// Which numbers apply; the lowest is given.
+#[derive(Default)]
+pub struct Verdict([bool; 13]);
+
+impl Verdict {
+    fn rule(mut self, number: usize, applies: bool) -> Self {
+        self.0[number] |= applies;
+        self
+    }
+
+    pub fn says(&self, number: usize) -> bool {
+        self.0[number]
+    }
+
+    pub fn lowest(&self) -> Option<usize> {
+        (1..=12).find(|number| self.0[*number])
+    }
+}
+
+// 1: "n or d outside its size, or length not n*d". Without a matrix, n alone is judged.
+
+fn rows(n: u64, most: u64) -> bool {
+    n < 1 || n > most
+}
+
+fn matrix(matrix: &Matrix, most: u64) -> bool {
+    let columns = matrix.d < 1 || matrix.d > MOST_COLUMNS;
+    let cells = u128::from(matrix.n) * u128::from(matrix.d);
+    rows(matrix.n, most) || columns || matrix.cells.len() as u128 != cells
+}
+
+// 2: "m outside its size; or a relative length not strictly between 0 and 0.5 (NaN included)".
+
+fn minimal_length(m: u64) -> bool {
+    m < 1 || m > MOST_M
+}
+
+fn relative_length(r: f64) -> bool {
+    !(r > 0.0 && r < 0.5)
+}
+
+// 3: "threshold NaN; or alpha not strictly between 0 and 1".
+
+fn threshold(threshold: f64) -> bool {
+    threshold.is_nan()
+}
+
+fn alpha(alpha: f64) -> bool {
+    !(alpha > 0.0 && alpha < 1.0)
+}
+
+// 4: "an infinite or NaN cell, likelihood, delta, base or observed maximum".
+
+fn not_finite(values: &[f64]) -> bool {
+    values.iter().any(|value| value.is_infinite() || value.is_nan())
+}
+
+// 5: "forbidden list of odd length, or a pair with a > b". A list that isn't given isn't looked at.
+
+fn pairs(forbidden: &Forbidden) -> impl Iterator<Item = (u64, u64)> + '_ {
+    let list = forbidden.as_deref().unwrap_or(&[]);
+    list.chunks_exact(2).map(|pair| (pair[0], pair[1]))
+}
+
+fn bad_list(forbidden: &Forbidden) -> bool {
+    let odd = forbidden.as_ref().is_some_and(|list| list.len() % 2 == 1);
+    odd || pairs(forbidden).any(|(a, b)| a > b)
+}
+
+// 6: "more than 64 layers, or a layer value not in [1/4096, 1)".
+
+fn bad_layers(layers: &[f64]) -> bool {
+    layers.len() > MOST_LAYERS || layers.iter().any(|v| !(*v >= SMALLEST_LAYER && *v < 1.0))
+}
+
+// 7: "a lent working or output slice shorter than stated here": room.rs, from the stated lengths.
+
+// 8: "start > stop or stop > n; a given split (gain, kNN) below start or above stop; for kNN also
+// start = stop".
+
+fn outside(n: u64, start: u64, stop: u64) -> bool {
+    start > stop || stop > n
+}
+
+fn split_outside(start: u64, stop: u64, split: u64) -> bool {
+    split < start || split > stop
+}
+
+// 9: "2*m >= stop-start"; permutation counts "for 2*m >= L".
+
+fn too_short(m: u64, length: i128) -> bool {
+    2 * i128::from(m) >= length
+}
+
+fn length(segment: &Segment) -> i128 {
+    i128::from(segment.stop) - i128::from(segment.start)
+}
+
+// 10: "a candidate range exists but every row of it is forbidden". Rows x with
+// start+m <= x < stop-m, except a < x <= b for some pair.
+
+fn range(segment: &Segment) -> (i128, i128) {
+    let m = i128::from(segment.m);
+    (i128::from(segment.start) + m, i128::from(segment.stop) - m)
+}
+
+fn barred_up_to(forbidden: &Forbidden, x: i128) -> Option<i128> {
+    let bars = |(a, b): &(i128, i128)| *a < x && x <= *b;
+    pairs(forbidden).map(|(a, b)| (a.into(), b.into())).find(bars).map(|(_, b)| b)
+}
+
+fn all_barred(segment: &Segment) -> bool {
+    let (mut x, end) = range(segment);
+    if x >= end {
+        return false;
+    }
+    while let Some(b) = barred_up_to(&segment.forbidden, x) {
+        x = b + 1;
+    }
+    x >= end
+}
+
+fn is_candidate(segment: &Segment, x: u64) -> bool {
+    let (first, end) = range(segment);
+    let x = i128::from(x);
+    first <= x && x < end && barred_up_to(&segment.forbidden, x).is_none()
+}
+
+// 11: "a permutation lacks an index of 0..L-1, holds one twice or out of range; list length not
+// P*L, or P > 999".
+
+fn bad_permutations(perms: &[u64], p: u64, l: usize) -> bool {
+    if p > MOST_PERMUTATIONS || perms.len() as u128 != u128::from(p) * l as u128 {
+        return true;
+    }
+    let twice_or_out = |one: &[u64]| {
+        let mut seen = vec![false; l];
+        one.iter().any(|i| *i >= l as u64 || std::mem::replace(&mut seen[*i as usize], true))
+    };
+    l > 0 && perms.chunks_exact(l).any(twice_or_out)
+}
+
+// 12: "number of curves not 1 to 3; curve lengths differ, are 0 or above 4,096; a guess that is no
+// candidate; for the pick, a curve length other than stop-start".
+
+fn bad_lengths(lengths: &[usize]) -> bool {
+    let bad = |length: &usize| *length == 0 || *length > LONGEST_CURVE;
+    lengths.iter().any(bad) || lengths.iter().any(|length| *length != lengths[0])
+}
+
+/// 2, 5, 8, 9 and 10 of a segment that is searched.
+fn searched(verdict: Verdict, segment: &Segment) -> Verdict {
+    verdict
+        .rule(2, minimal_length(segment.m))
+        .rule(5, bad_list(&segment.forbidden))
+        .rule(8, outside(segment.n, segment.start, segment.stop))
+        .rule(9, too_short(segment.m, length(segment)))
+        .rule(10, all_barred(segment))
+}
+
+/// What lies beyond the count isn't looked at; with a count above 3 the three that are lent are.
+/// L is the first curve's length, 0 if there is none.
+fn permuted(verdict: Verdict, case: &Perm) -> Verdict {
+    let lent = case.k.min(MOST_CURVES) as usize;
+    let (bases, deltas) = (&case.bases[..lent], &case.deltas[..lent]);
+    let lengths: Vec<usize> = deltas.iter().map(Vec::len).collect();
+    let l = lengths.first().copied().unwrap_or(0);
+    let infinite = not_finite(bases) || deltas.iter().any(|curve| not_finite(curve));
+    verdict
+        .rule(2, minimal_length(case.m))
+        .rule(3, alpha(case.alpha))
+        .rule(4, infinite || not_finite(&[case.max]))
+        .rule(9, too_short(case.m, l as i128))
+        .rule(11, bad_permutations(&case.perms, case.p, l))
+        .rule(12, case.k < 1 || case.k > MOST_CURVES || bad_lengths(&lengths))
+}
+
+/// Every number that applies to a case; `short` says whether a lent slice is too short.
+pub fn judge(case: &Case, short: bool) -> Verdict {
+    let verdict = Verdict::default().rule(7, short);
+    match case {
+        Case::Rel { r, n } => verdict.rule(1, rows(*n, MOST_ROWS)).rule(2, relative_length(*r)),
+        Case::F32 { .. } => verdict,
+        Case::Cand { segment } | Case::Guesses { segment } => {
+            searched(verdict.rule(1, rows(segment.n, MOST_ROWS)), segment)
+        }
+        Case::Gain { matrix: cells, start, stop, split } => verdict
+            .rule(1, matrix(cells, MOST_ROWS))
+            .rule(4, not_finite(&cells.cells))
+            .rule(8, outside(cells.n, *start, *stop) || split_outside(*start, *stop, *split)),
+        Case::Search { matrix: cells, segment } => {
+            let verdict = verdict.rule(1, matrix(cells, MOST_ROWS));
+            searched(verdict.rule(4, not_finite(&cells.cells)), segment)
+        }
+        Case::Tree { matrix: cells, m, threshold: t, forbidden, layers } => verdict
+            .rule(1, matrix(cells, MOST_ROWS))
+            .rule(2, minimal_length(*m))
+            .rule(3, threshold(*t))
+            .rule(4, not_finite(&cells.cells))
+            .rule(5, bad_list(forbidden))
+            .rule(6, bad_layers(layers)),
+        Case::Order { matrix: cells } => {
+            verdict.rule(1, matrix(cells, MOST_NEIGHBOUR_ROWS)).rule(4, not_finite(&cells.cells))
+        }
+        Case::Knn { matrix: cells, start, stop, split } => verdict
+            .rule(1, matrix(cells, MOST_NEIGHBOUR_ROWS))
+            .rule(4, not_finite(&cells.cells))
+            .rule(8, outside(cells.n, *start, *stop) || split_outside(*start, *stop, *split))
+            .rule(8, start == stop),
+        Case::Curve { l0, l1 } => verdict
+            .rule(4, not_finite(l0) || not_finite(l1))
+            .rule(12, bad_lengths(&[l0.len(), l1.len()])),
+        Case::Pick { segment, guess, curve } => {
+            searched(verdict.rule(1, rows(segment.n, MOST_ROWS)), segment)
+                .rule(12, bad_lengths(&[curve.len()]) || curve.len() as i128 != length(segment))
+                .rule(12, !is_candidate(segment, *guess))
+        }
+        Case::Perm(case) => permuted(verdict, case),
+    }
+}
