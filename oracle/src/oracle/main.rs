@@ -1,6 +1,7 @@
 //! oracle [--source]: answers each case of standard input (docs/REPLAY.md) with the original Rust;
 //! `--source` adds where the answer comes from: rust, rules or line.
 //! oracle deck: the text program, standard input to standard output.
+//! oracle decks: the same for many decks, each deck and each sheet with its length (u64) before it.
 
 mod answer;
 mod case;
@@ -38,14 +39,29 @@ fn deck() -> Result<()> {
     stdout().lock().write_all(deck::sheet(&input).as_bytes())
 }
 
+fn decks() -> Result<()> {
+    let (mut input, mut output) = (stdin().lock(), BufWriter::new(stdout().lock()));
+    let mut long = [0; 8];
+    while !input.fill_buf()?.is_empty() {
+        input.read_exact(&mut long)?;
+        let mut deck = vec![0; u64::from_le_bytes(long) as usize];
+        input.read_exact(&mut deck)?;
+        let sheet = deck::sheet(&deck);
+        output.write_all(&(sheet.len() as u64).to_le_bytes())?;
+        output.write_all(sheet.as_bytes())?;
+    }
+    output.flush()
+}
+
 fn run() -> Result<()> {
     let arguments: Vec<String> = std::env::args().skip(1).collect();
     match arguments.iter().map(String::as_str).collect::<Vec<_>>()[..] {
         [] => answers(false),
         ["--source"] => answers(true),
         ["deck"] => deck(),
+        ["decks"] => decks(),
         _ => {
-            eprintln!("oracle [--source] | oracle deck");
+            eprintln!("oracle [--source] | oracle deck | oracle decks");
             exit(2)
         }
     }
