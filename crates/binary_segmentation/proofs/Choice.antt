@@ -1,7 +1,7 @@
 -- A segment's choice: the first of the greatest, and where it comes from. Assumes nothing.
 use mathlib.Core.Path.{_≡_, refl}
 use mathlib.Core.Logic.{⊎-elim}
-use mathlib.Core.Bool.{true, false}
+use mathlib.Core.Bool.{Bool, true, false}
 use mathlib.Core.List.{List, List·Memᴰ·head, List·Memᴰ·tail, List·Memᴰ·cases-cons}
 use mathlib.Core.Option.{Option, none, some}
 use Prim.Native.Nat.{ℕ, _≤_}
@@ -11,11 +11,19 @@ use Rattle.scope.specs.Allowed.{Allowed}
 use Rattle.scope.specs.Greatest.{numeric, FirstGreatest}
 use Rattle.scope.specs.Grid.{Record, best}
 use Rattle.scope.specs.Tree.{Run, direct, seedRecords, inside, chosen, choice}
-use Rattle.scope.proofs.Greatest.{best-is-first}
+use Rattle.scope.proofs.Order.{both, lt-co}
+use Rattle.scope.proofs.Greatest.{best-is-first, first-one, first-greatest, first-numeric}
 use Rattle.binary_segmentation.specs.Offered.{Offered, own, seeded}
-use Rattle.binary_segmentation.proofs.First.{still-not, first-one, first-greatest, first-numeric}
 use Rattle.binary_segmentation.proofs.Records.{zero-one, direct-found, direct-numeric, direct-above, direct-some, Seeded, seeds-are, seeds-all}
 use Rattle.binary_segmentation.proofs.Inside.{inside-are, inside-all}
+
+-- not w < y, and not y < z, and so not w < z, if y is numeric
+still-not : (w y z : Float) → numeric y ≡ true → lt w y ≡ false → lt y z ≡ false → lt w z ≡ false
+still-not w y z n h k = go (lt w z) refl
+  where
+    go : (b : Bool) → lt w z ≡ b → b ≡ false
+    go true t = both (lt-co w y z n t k) h
+    go false t = refl
 
 -- ---- over any stored records
 module _ (q : Run) (rs : List Record) (start stop : ℕ) where

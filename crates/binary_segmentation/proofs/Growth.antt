@@ -16,7 +16,8 @@ use Rattle.scope.specs.Grid.{Record}
 use Rattle.scope.specs.Layers.{one}
 use Rattle.scope.specs.Tree.{Run, direct, choice, Verdict, uncut, cut, judged, verdict, Tree, leaf, node, Grown, parted, grow, nodes, nodeCount, sheet, cuts}
 use Rattle.segmentation.specs.Flat.{Put}
-use Rattle.segmentation.proofs.Flat.{sets-append, put-more, put-long, put-read}
+use Rattle.rows.proofs.Stored.{sets-append}
+use Rattle.segmentation.proofs.Flat.{put-more, put-long, put-read}
 use Rattle.binary_segmentation.specs.declared.node.Node.{Node as NodeStruct}
 use Rattle.optimizer.specs.declared.optimizer_result.GainRecord.{GainRecord}
 use Rattle.optimizer.specs.Records.{toRecord}
@@ -27,7 +28,7 @@ use Rattle.binary_segmentation.specs.Nodes.{fromRecord, toNode, leafOf, 
 use Rattle.binary_segmentation.specs.Growth.{Lent, stored, judgedOf, behind, behindCut, Judging, Written, Growing, Sound, Fits, Sized}
 use Rattle.binary_segmentation.proofs.Records.{zero-one, direct-found, one-found}
 use Rattle.binary_segmentation.proofs.Inside.{inside-are}
-use Rattle.binary_segmentation.proofs.First.{first-one}
+use Rattle.scope.proofs.Greatest.{first-one}
 use Rattle.binary_segmentation.proofs.Choice.{choice-of}
 use Rattle.binary_segmentation.proofs.Sheet.{sheet-node}
 use Rattle.binary_segmentation.proofs.Room.{count-nodes}

@@ -1,5 +1,4 @@
 -- The laws of the definitions of specs/.
-pub mod First
 pub mod Records
 pub mod Inside
 pub mod Choice

@@ -12,22 +12,17 @@ use lib.ListN.{length, getD, set, drop, take, length-append, drop-of-length-le}
 use lib.Seq.{sets, length-sets, sets-eq, drop-cons}
 use borrow.Author.Tests.{lt-ltb, le-ltb}
 use Rattle.io.specs.Digits.{digits, Fewest}
+use Rattle.rows.proofs.Stored.{sets-append}
 use Rattle.scope.specs.Lists.{holding}
 use Rattle.scope.specs.Text.{bytes, decimalOf, decimal, hexOf, line}
 use Rattle.report.specs.Written.{Written}
-
-sets-append : {A : Type 0} (xs ys l : List A) (i : ℕ) → sets l i (xs ++ ys) ≡ sets (sets l i xs) (i + length xs) ys
-sets-append [] ys l i = let e : i ≡ i + 0 = omega arith in ap (λ (k : ℕ). sets l k ys) e
-sets-append (x ∷ xs) ys l i =
-    let e : suc i + length xs ≡ i + suc (length xs) = omega arith in
-    sets-append xs ys (set l i x) (suc i) ∙ ap (λ (k : ℕ). sets (sets (set l i x) (suc i) xs) k ys) e
 
 -- one text after another
 pub written-then : {l xs m ys n : List ℕ} {at e f : ℕ} → Written l at xs m e → Written m e ys n f → Written l at (xs ++ ys) n f
 written-then {l} {xs} {m} {ys} {at = at} p q =
     record {
       end-is = q .end-is ∙ rw (p .end-is, length-append xs ys) (omega arith);
-      after-is = q .after-is ∙ rw (p .after-is, p .end-is) (sym (sets-append xs ys l at));
+      after-is = q .after-is ∙ rw (p .after-is, p .end-is) (sym (sets-append l at xs ys));
     }
 
 -- the slice keeps its length

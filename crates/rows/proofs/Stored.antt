@@ -2,10 +2,11 @@
 use mathlib.Core.Path.{_≡_, refl, sym, ap, _∙_}
 use mathlib.Core.List.{List, [], _∷_, _++_, append-assoc}
 use Prim.Native.Nat.{ℕ, suc, _+_, _-_, _≤_, _<_}
+use native.Mathlib.Nat.{add-zero, add-suc, suc-add}
 use native.Mathlib.Numerals.{add-one}
 use native.Mathlib.Omega.{arith}
 use lib.ListN.{length, getD, set, take, drop, length-append, length-drop}
-use lib.Seq.{drop-cons, set-at, length-front, drop-at, take-at}
+use lib.Seq.{sets, drop-cons, set-at, length-front, drop-at, take-at}
 
 module _ {A : Type 0} where
   -- p stands at the start of l, n entries long; v is stored behind it
@@ -19,3 +20,8 @@ module _ {A : Type 0} where
   -- what was stored, and what stands behind it
   pub take-stored : (p l : List A) (n : ℕ) → length p ≡ n → take n (p ++ drop n l) ≡ p
   take-stored p l n h = take-at p (drop n l) n h
+
+  -- a run of stores, in two parts
+  pub sets-append : (l : List A) (p : ℕ) (xs ys : List A) → sets l p (xs ++ ys) ≡ sets (sets l p xs) (p + length xs) ys
+  sets-append l p [] ys = rw add-zero
+  sets-append l p (x ∷ xs) ys = sets-append (set l p x) (suc p) xs ys ∙ rw (suc-add, add-suc)

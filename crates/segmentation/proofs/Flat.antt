@@ -2,21 +2,18 @@
 use mathlib.Core.Path.{_≡_, refl, sym, ap, _∙_}
 use mathlib.Core.List.{List, [], _∷_, _++_}
 use Prim.Native.Nat.{ℕ, zero, suc, _+_, _*_, _≤_}
-use native.Mathlib.Nat.{zero-add, add-zero, add-suc, suc-add}
+use native.Mathlib.Nat.{zero-add, suc-add}
 use native.Mathlib.Omega.{arith}
 use lib.Ieee.{Float}
 use lib.ListN.{length, set, length-append}
 use lib.Seq.{sets, sets-eq, length-sets}
+use Rattle.rows.proofs.Stored.{sets-append}
 use Rattle.scope.specs.Lists.{holding}
 use Rattle.scope.specs.Grid.{Record}
 use Rattle.segmentation.specs.Flat.{flatRows, gainsOf, recordsIn, Put}
 
 -- ---- runs of stores
 module _ {A : Type 0} where
-  pub sets-append : (l : List A) (p : ℕ) (xs ys : List A) → sets l p (xs ++ ys) ≡ sets (sets l p xs) (p + length xs) ys
-  sets-append l p [] ys = rw add-zero
-  sets-append l p (x ∷ xs) ys = sets-append (set l p x) (suc p) xs ys ∙ rw (suc-add, add-suc)
-
   -- a run from the start on
   pub sets-holding : (l vs : List A) → length vs ≤ length l → sets l 0 vs ≡ holding vs l
   sets-holding l vs h = sets-eq vs l 0 (omega arith) ∙ rw zero-add
