@@ -3,7 +3,7 @@ use mathlib.Core.Path.{_≡_, refl, sym, _∙_, ap}
 use mathlib.Core.Bool.{Bool, true, false, cond, true≢false}
 use mathlib.Core.List.{List, [], _∷_, _++_}
 use mathlib.Core.Option.{some}
-use Prim.Native.Nat.{ℕ, _+_, _-_, _*_, _≤_, _<_}
+use Prim.Native.Nat.{ℕ, _+_, _-_, _*_, _/_, _≤_, _<_}
 use native.Mathlib.Nat.{add-mul, mul-le-mul-right}
 use native.Mathlib.Omega.{arith}
 use borrow.Author.Tests.{ltb-false, eqb-true, eqb-false, not-false}
@@ -17,7 +17,8 @@ use Rattle.scope.specs.Refusals.{Test, test, firstOf, no9, wrongLayers}
 use Rattle.scope.specs.Candidates.{rangeSize, candidates, no10}
 use Rattle.scope.specs.Sums.{flatSums, prefixSums}
 use Rattle.scope.specs.Layers.{layersTotal}
-use Rattle.scope.specs.Calls.{candidatesTests, candidatesRefusal, gainTests, gainRefusal, searchTests, searchRefusal, pickTests, listed, guessesTests, orderingTests, predictTests, predictRefusal, seededTests, seededRefusal}
+use Rattle.scope.specs.Tree.{mostNodes}
+use Rattle.scope.specs.Calls.{candidatesTests, candidatesRefusal, gainTests, gainRefusal, searchTests, searchRefusal, pickTests, listed, guessesTests, orderingTests, predictTests, predictRefusal, seededTests, seededRefusal, Room, treeTests, treeRefusal}
 use Rattle.scope.proofs.Sums.{length-flat}
 use Rattle.scope.proofs.Candidates.{refusal-9-10}
 use Rattle.control.proofs.Sizes.{Matrix, matrix, inside, segment, split-in}
@@ -200,4 +201,28 @@ seeded-clean cells n d m ps layers room records e =
       length-fits = inside 4096 m (p .1 .0) .1;
       layers-right = p .1 .1 .1 .1 .0;
       fits = ltb-false records (layersTotal layers) (room-tests .1 .0);
+    }
+
+-- ---- the tree
+pub record TreeClean (cells : List Float) (n d m : ℕ) (layers : List Float) (room : Room) : Type 0 where
+  pub sums : SumsClean cells n d (room .sums)
+  pub lengths : (1 ≤ m) × (m ≤ 4096)
+  pub layers-right : wrongLayers layers ≡ false
+  pub records-fit : layersTotal layers + mostNodes n m ≤ room .records
+  pub nodes-fit : mostNodes n m ≤ room .nodes
+  pub cuts-fit : (mostNodes n m - 1) / 2 ≤ room .cuts
+
+pub tree-clean : (cells : List Float) (n d m : ℕ) (threshold : Float) (ps : List ℕ) (layers : List Float) (room : Room) → treeRefusal cells n d m threshold ps layers room ≡ 0
+    → TreeClean cells n d m layers room
+unfolding treeRefusal
+tree-clean cells n d m threshold ps layers room e =
+    let p = passed (treeTests cells n d m threshold ps layers room) tt e in
+    let room-tests = p .1 .1 .1 .1 .1 .1 in
+    record {
+      sums = sums-clean cells n d (room .sums) (matrix 4096 cells n d (p .0)) (ltb-false (room .sums) ((n + 1) * d) (room-tests .0));
+      lengths = inside 4096 m (p .1 .0);
+      layers-right = p .1 .1 .1 .1 .1 .0;
+      records-fit = ltb-false (room .records) (layersTotal layers + mostNodes n m) (room-tests .1 .0);
+      nodes-fit = ltb-false (room .nodes) (mostNodes n m) (room-tests .1 .1 .0);
+      cuts-fit = ltb-false (room .cuts) ((mostNodes n m - 1) / 2) (room-tests .1 .1 .1 .0);
     }

@@ -5,8 +5,10 @@ use mathlib.Core.Option.{Option, none, some}
 use Prim.Native.Nat.{ℕ, _/_, min}
 use lib.Ieee.{Float}
 use lib.ListN.{length}
-use Rattle.scope.specs.Refusals.{Answer, refused, given}
-use Rattle.scope.specs.Calls.{Tested}
+use Rattle.scope.specs.Refusals.{Answer, refused, given, unless, toldUnless}
+use Rattle.scope.specs.Grid.{Record}
+use Rattle.scope.specs.Tree.{seedRecords}
+use Rattle.scope.specs.Calls.{Tested, Room, Counts, runOf, treeRefusal}
 use Rattle.optimizer.specs.Guessed.{guessesIn}
 use Rattle.changeforest.specs.declared.curves.Permuted.{Permuted}
 use Rattle.changeforest.specs.declared.curves.Permuted.the-variants as permuted
@@ -16,6 +18,10 @@ use Rattle.changeforest.specs.declared.mean.Count.{Count}
 use Rattle.changeforest.specs.declared.mean.Count.the-variants as count
 use Rattle.changeforest.specs.declared.mean.Gained.{Gained}
 use Rattle.changeforest.specs.declared.mean.Gained.the-variants as gained
+use Rattle.changeforest.specs.declared.tree.Grown.{Grown}
+use Rattle.changeforest.specs.declared.tree.Grown.the-variants as grown
+use Rattle.changeforest.specs.declared.tree.Prepared.{Prepared}
+use Rattle.changeforest.specs.declared.tree.Prepared.the-variants as prepared
 use Rattle.changeforest.specs.declared.two_step.Guessed.{Guessed}
 use Rattle.changeforest.specs.declared.two_step.Guessed.the-variants as guessed
 
@@ -47,3 +53,25 @@ permutedOf (given t) = permuted.Tested (record { counter = t .counted; «p_value
 -- how many records fit into two slices: three row numbers and one gain each
 abbrev pub recordRoom : List ℕ → List Float → ℕ
 recordRoom rows gains = min (length rows / 3) (length gains)
+
+-- ---- the tree
+abbrev pub grownOf : Answer Counts → Grown
+grownOf (refused k) = grown.Refused k
+grownOf (given c) = grown.Counted (record { nodes = c .nodes; records = c .records; cuts = c .cuts })
+
+-- the lengths of the slices that a call for the tree is lent
+abbrev pub roomOf : List Float → List ℕ → List Float → ℕ → ℕ → Room
+roomOf sums rows gains nodes cuts = record { sums = length sums; records = recordRoom rows gains; nodes = nodes; cuts = cuts }
+
+-- before it is grown: how many records the seeded segments leave, and which
+unfoldable pub seedsAnswer : List Float → ℕ → ℕ → ℕ → Float → List ℕ → List Float → Room → Answer ℕ
+seedsAnswer cells n d m threshold forbidden layers room =
+    unless (treeRefusal cells n d m threshold forbidden layers room) (length (seedRecords (runOf cells n d m threshold forbidden layers)))
+
+unfoldable pub seedsTold : List Float → ℕ → ℕ → ℕ → Float → List ℕ → List Float → Room → List Record
+seedsTold cells n d m threshold forbidden layers room =
+    toldUnless (treeRefusal cells n d m threshold forbidden layers room) (seedRecords (runOf cells n d m threshold forbidden layers))
+
+abbrev pub preparedOf : ℕ → Answer ℕ → Prepared
+preparedOf sums (refused k) = prepared.Refused k
+preparedOf sums (given records) = prepared.Seeded sums records

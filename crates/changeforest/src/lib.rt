@@ -9,4 +9,5 @@ pub mod mean;
 pub mod neighbours;
 mod refusals;
 pub mod segments;
+pub mod tree;
 pub mod two_step;

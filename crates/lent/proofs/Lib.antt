@@ -5,7 +5,9 @@ pub mod Shares
 pub mod SharesOn
 pub mod Data
 pub mod Held
+pub mod First
 pub mod Locals
 pub mod Walk
 pub mod Calls
 pub mod Meets
+pub mod Clauses

@@ -1,8 +1,10 @@
 -- A walk of a function's code, over the table of its locals (`Locals.antt`): each rule names only what the code does not say. It says nothing of any crate.
 --     Walk … Δ vs b    the code b runs from what is held, Δ, and the locals, which hold vs
 --     copies           _k = _i, or a field of it.        binds     _k = a field of the enum that _i holds.        reborrows     _k = &mut *_i.0; _(k+1) = (_k, _i.1), a slice lent on
---     moves            what is held, in another order
---     cases            a `match` on the enum that _i holds.        ends     an arm or a call that ends its part: the code after it runs
+--     points           _k = &*_i.0, a slice's pointer
+--     builds           _k = a struct or a variant, of operands
+--     cases            a `match` on the enum that _i holds.        copies-last, builds-last     as the last statement of an arm: the code after it runs
+--     updates          what is held is updated, or stands in another order: no code runs
 --     returning        the function returns what _0 holds, and its locals are freed
 -- What is stored is of its local's type since what is read is of its own: no rule asks for it. Each `refl` is a look into the table. Assumes `Given`.
 use mathlib.Core.Path.{_≡_, refl, sym, _∙_, ap, subst}
@@ -17,12 +19,12 @@ use native.Mathlib.Omega.{arith}
 use mir.Syntax.{Mutability, Lifetime, w64, Ty, tyInt, tyBool, tyFloat, tyPtr, tyRef, tyArray, tyUnit, tyStruct, tyEnum, tyNamed, Sym, Tys, Tyss, Step as PStep, deref, field, variant, place, Opd as Operand, copy, int, intNeg, intBig, float, opdTrue, opdFalse, opdUnit, ptrConst, rvOpd, addrOf, aggregate, Body, skip, seq, assign, block, loop, cond as condᴮ, switch, exit, return, call, Arms, arm, default, noDefault, Local}
 use mir.Val.{Val, Vals, vunit, vbool, vint, vfloat, vptr, vstruct, ofList, WT, hasTy, hasKey, bits}
 use mir.Fields.{getV}
-use base.Logic.{SProp, ent, sep, via, monoL, comm∗, ex∗, guard}
+use base.Logic.{SProp, ent, sep, ex, id⊢, via, monoL, comm∗, ex∗, guard}
 use base.Fml.{Share, fat}
 use prog.Memory.{fieldAt, fieldOf, variantAt, withTag}
 use prog.Wp.{Out, returns as returnsᴼ, afterSeq, branch, Wp, WpArms, atReturn, Heap, Env, Calls, Loops, Spot}
 use ghost.Atoms.{Atoms}
-use types.Kit.{Given, Item, mean, ⋆, nth, del, put, unpull, Post, anyQ, atRet, post, Goal, runs, Seq, ‵, _$_, by}
+use types.Kit.{Given, Item, mean, ⋆, nth, del, put, unpull, Post, anyQ, atRet, post, Goal, runs, Seq, ‵, raw, some as one-of, later, _$_, by, cut, pick, await}
 use types.Run.{first as first′, returns-within, assigns-last, exec, switches-on, Reads, Writes, Walks, Finds, Opd, Opds, init, store, stop, hop, fld, from, load, lit, true-lit, false-lit, unit-lit, no-more, and-then, of-opd, addr, assigns}
 use types.Part.{Part, Rest, whole, sub, look-in, taken, given-back, agg}
 use types.Match.{live, vrt, in-variant, look-tag}
@@ -310,6 +312,11 @@ module _ {M : Type 1} {𝓤 : URA M} {H : Heap 𝓤} {A : Atoms 𝓤} {K : Type 
   pub first : K → {a b : Body} → Walk K W C Λ ls pl Kf Δ vs (b ∷ ks) a → Walk K W C Λ ls pl Kf Δ vs ks (seq a b)
   first t w = record { run = first′ t $ w .run }
 
+  pub updates : K → {X : Type 0} (Δ′ : X → List (Item 𝓤)) {b : Body} → ent 𝓤 (⋆ 𝓤 H A Δ) (H .⇛ (ex 𝓤 (λ (x : X). ⋆ 𝓤 H A (Δ′ x)))) → ((x : X) → Walk K W C Λ ls pl Kf (Δ′ x) vs ks b) → Walk K W C Λ ls pl Kf Δ vs ks b
+  updates t {X} Δ′ e w = record {
+    run = cut Δ (later (one-of (λ (x : X). raw (⋆ 𝓤 H A (Δ′ x)))) ∷ []) (cells 𝓤 ls pl vs) e $ await t tt $ pick t (λ x. cut (raw (⋆ 𝓤 H A (Δ′ x)) ∷ []) (Δ′ x) (cells 𝓤 ls pl vs) (id⊢ 𝓤 _) $ w x .run);
+  }
+
   module _ {i k : ℕ} {st : List PStep} {rest : Body} {x : Ty × (ℕ × Val)} where
     pub copies : K → valueAt ls vs i st ≡ some x → typeAt ls k ≡ some (x .0) → Walk K W C Λ ls pl Kf Δ (holding k (x .1 .1) vs) ks rest → Walk K W C Λ ls pl Kf Δ vs ks (seq (assign (place k []) (rvOpd (copy (place i st)))) rest)
     copies t e f w = record { run = typed-at t W ls pl Δ vs i st x e (λ wt. assigns t (of-opd t (reads-at t W ls pl Δ vs i st x e)) (finds t W ls pl Δ vs k f (stop t)) (writes-at t W ls pl Δ vs k (x .1 .1) f wt) $ w .run) }
@@ -320,10 +327,17 @@ module _ {M : Type 1} {𝓤 : URA M} {H : Heap 𝓤} {A : Atoms 𝓤} {K : Type 
       run = typed-at t W ls pl Δ vs i st x e (λ wt. assigns-last t (of-opd t (reads-at t W ls pl Δ vs i st x e)) (finds t W ls pl Δ vs k f (stop t)) (writes-at t W ls pl Δ vs k (x .1 .1) f wt) $ exec t C Λ (env ls pl) rest (then 𝓤 H C Λ (env ls pl) Kf ks) $ w .run);
     }
 
-  -- a struct is built
+  -- a struct or a variant is built
   pub builds : K → {k : ℕ} {τ : Ty} {xs : List Operand} {us : List Val} {rest : Body} → operands ls vs xs ≡ some us → typeAt ls k ≡ some τ → T (hasTy τ (vstruct (ofList us))) × WT (vstruct (ofList us))
       → Walk K W C Λ ls pl Kf Δ (holding k (vstruct (ofList us)) vs) ks rest → Walk K W C Λ ls pl Kf Δ vs ks (seq (assign (place k []) (aggregate xs)) rest)
   builds t {k} {τ} {xs} {us} e f wt w = record { run = assigns t (agg t (reads-all t W ls pl Δ vs xs us e)) (finds t W ls pl Δ vs k f (stop t)) (writes-at t W ls pl Δ vs k (vstruct (ofList us)) f wt) $ w .run }
+
+  -- as the last statement of its part
+  pub builds-last : K → {k : ℕ} {τ : Ty} {xs : List Operand} {us : List Val} {rest : Body} → operands ls vs xs ≡ some us → typeAt ls k ≡ some τ → T (hasTy τ (vstruct (ofList us))) × WT (vstruct (ofList us))
+      → Walk K W C Λ ls pl Kf Δ (holding k (vstruct (ofList us)) vs) ks rest → Walk K W C Λ ls pl Kf Δ vs (rest ∷ ks) (assign (place k []) (aggregate xs))
+  builds-last t {k} {τ} {xs} {us} {rest} e f wt w = record {
+    run = assigns-last t (agg t (reads-all t W ls pl Δ vs xs us e)) (finds t W ls pl Δ vs k f (stop t)) (writes-at t W ls pl Δ vs k (vstruct (ofList us)) f wt) $ exec t C Λ (env ls pl) rest (then 𝓤 H C Λ (env ls pl) Kf ks) $ w .run;
+  }
 
   -- the enum that local i holds
   module _ {i c : ℕ} {ν : Sym} {τss : Tyss} {τs : Tys} {us : Vals} where
@@ -343,18 +357,24 @@ module _ {M : Type 1} {𝓤 : URA M} {H : Heap 𝓤} {A : Atoms 𝓤} {K : Type 
           by t (subst (λ (P : SProp 𝓤). ent 𝓤 (⋆ 𝓤 H A (Δ ++ cells 𝓤 ls pl vs)) P) (arm-runs 𝓤 H C Λ (env ls pl) Kf xs c (post 𝓤 H (then 𝓤 H C Λ (env ls pl) Kf ks)) f) (w .run .prf));
     }
 
+  -- a slice's pointer
+  pub points : K → {i k b o n : ℕ} {ρ σ τ : Ty} {κ : Lifetime} {μ : Mutability} {rest : Body} → typeAt ls i ≡ some (sliceTy ρ) → heldAt vs i ≡ some (sliceVal (b, o) n) → typeAt ls k ≡ some (tyRef κ μ σ)
+      → Walk K W C Λ ls pl Kf Δ (holding k (vptr b o) vs) ks rest → Walk K W C Λ ls pl Kf Δ vs ks (seq (assign (place k []) (addrOf (place i (field 0 ∷ deref τ ∷ [])))) rest)
+  points t {i} {k} {b} {o} e h f w = record {
+    run = assigns t (addr t (finds t W ls pl Δ vs i e (fld t refl (hop t (look-in t (pos 𝓤 H A Δ i) (sub t 0 refl (cell-of t W ls pl Δ vs i e h))) (stop t))))) (finds t W ls pl Δ vs k f (stop t)) (writes-at t W ls pl Δ vs k (vptr b o) f (tt, tt)) $ w .run;
+  }
+
   -- a slice lent on
   pub reborrows : K → {i k b o n : ℕ} {ρ σ τ : Ty} {κ : Lifetime} {μ : Mutability} {rest : Body} → typeAt ls i ≡ some (sliceTy ρ) → heldAt vs i ≡ some (sliceVal (b, o) n) → typeAt ls k ≡ some (tyRef κ μ σ) → typeAt ls (suc k) ≡ some (sliceTy (tyRef κ μ σ)) → heldAt (holding k (vptr b o) vs) i ≡ some (sliceVal (b, o) n)
       → Walk K W C Λ ls pl Kf Δ (holding (suc k) (sliceVal (b, o) n) (holding k (vptr b o) vs)) ks rest
       → Walk K W C Λ ls pl Kf Δ vs ks (seq (assign (place k []) (addrOf (place i (field 0 ∷ deref τ ∷ [])))) (seq (assign (place (suc k) []) (aggregate (copy (place k []) ∷ copy (place i (field 1 ∷ [])) ∷ []))) rest))
   reborrows t {i} {k} {b} {o} {n} {ρ} {σ} {τ} {κ} {μ} e h f g h′ w =
-      let c = cell-of t W ls pl Δ vs i e h in
       let ws = holding k (vptr b o) vs in
-      record {
-        run = typed-in t (pos 𝓤 H A Δ i) c (λ wt.
-            assigns t (addr t (finds t W ls pl Δ vs i e (fld t refl (hop t (look-in t (pos 𝓤 H A Δ i) (sub t 0 refl c)) (stop t))))) (finds t W ls pl Δ vs k f (stop t)) (writes-at t W ls pl Δ vs k (vptr b o) f (tt, tt)) $
+      points t e h f
+      (record {
+        run = typed-in t (pos 𝓤 H A Δ i) (cell-of t W ls pl Δ ws i e h′) (λ wt.
             assigns t (agg t (and-then t (reads-at t W ls pl Δ ws k [] (tyRef κ μ σ, (zero, vptr b o)) (local-value ls ws k [] f (held-now k (vptr b o) vs))) (and-then t (reads-at t W ls pl Δ ws i (field 1 ∷ []) (tyInt w64, (_, vint w64 n)) (local-value ls ws i (field 1 ∷ []) e h′)) (no-more t)))) (finds t W ls pl Δ ws (suc k) g (stop t)) (writes-at t W ls pl Δ ws (suc k) (sliceVal (b, o) n) g (tt, wt .1)) $ w .run);
-      }
+      })
 
   -- the function returns what local 0 holds, and its locals are freed
   pub returning : K → {τ : Ty} {r : Val} → typeAt ls zero ≡ some τ → heldAt vs zero ≡ some r → ent 𝓤 (⋆ 𝓤 H A Δ) (Kf r) → Walk K W C Λ ls pl Kf Δ vs ks return

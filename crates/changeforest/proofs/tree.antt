@@ -1,0 +1,3 @@
+-- What the walk of the tree's entry point cites: the deals of the calls, and the laws from what is prepared to what is grown.
+pub mod Whole
+pub mod Deals
