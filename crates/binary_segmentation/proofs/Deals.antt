@@ -31,6 +31,15 @@ reading = record {
   says = λ (nodes, (at, _)) r _. r ≡ getD (now (nodes .x)) at (toNode (leafOf 0 0 none));
 }
 
+-- node::Node::without_choice
+abbrev pub blanking : Deal
+blanking = record {
+  ks = plain position ∷ plain position ∷ [];
+  res = node;
+  asks = λ _. Unit {0};
+  says = λ (start, (stop, _)) r _. r ≡ toNode (leafOf (start .0) (stop .0) none);
+}
+
 -- node::Node::cut
 abbrev pub making : Deal
 making = record {

@@ -5,9 +5,9 @@ use mathlib.Core.Option.{Option, none, some}
 use Prim.Native.Nat.{ℕ, _/_, min}
 use lib.Ieee.{Float}
 use lib.ListN.{length}
-use Rattle.scope.specs.Refusals.{Answer, refused, given, unless, toldUnless}
+use Rattle.scope.specs.Refusals.{mostRows, Answer, refused, given, unless, toldUnless}
 use Rattle.scope.specs.Grid.{Record}
-use Rattle.scope.specs.Tree.{seedRecords}
+use Rattle.scope.specs.Tree.{seedRecords, mostNodes}
 use Rattle.scope.specs.Calls.{Tested, Room, Counts, runOf, treeRefusal}
 use Rattle.optimizer.specs.Guessed.{guessesIn}
 use Rattle.changeforest.specs.declared.curves.Permuted.{Permuted}
@@ -62,6 +62,10 @@ grownOf (given c) = grown.Counted (record { nodes = c .nodes; records = c .recor
 -- the lengths of the slices that a call for the tree is lent
 abbrev pub roomOf : List Float → List ℕ → List Float → ℕ → ℕ → Room
 roomOf sums rows gains nodes cuts = record { sums = length sums; records = recordRoom rows gains; nodes = nodes; cuts = cuts }
+
+-- room for the nodes of any run: those of the most rows at m = 1
+abbrev pub nodeRoom : ℕ
+nodeRoom = mostNodes mostRows 1
 
 -- before it is grown: how many records the seeded segments leave, and which
 unfoldable pub seedsAnswer : List Float → ℕ → ℕ → ℕ → Float → List ℕ → List Float → Room → Answer ℕ

@@ -5,6 +5,7 @@ use binary_segmentation::tree;
 use binary_segmentation::tree::Counts;
 use binary_segmentation::tree::Settings;
 use gain::change_in_mean;
+use rows::Position;
 use segmentation::seeds;
 ghost use mathlib.Core.Path.{_≡_};
 ghost use mathlib.Core.List.{map};
@@ -14,7 +15,7 @@ ghost use Rattle.scope.specs.Lists.{holding};
 ghost use Rattle.scope.specs.Calls.{treeAnswer, treeSums, treeRecords, treeNodes, treeCuts};
 ghost use Rattle.segmentation.specs.Flat.{flatRows, gainsOf};
 ghost use Rattle.binary_segmentation.specs.Nodes.{toNode};
-ghost use Rattle.changeforest.specs.Answers.{grownOf, roomOf, preparedOf, seedsAnswer, seedsTold};
+ghost use Rattle.changeforest.specs.Answers.{grownOf, roomOf, nodeRoom, preparedOf, seedsAnswer, seedsTold};
 
 // How many nodes, records and cuts were written, or the refusal's number.
 pub enum Grown {
@@ -124,4 +125,44 @@ pub fn binary_segmentation(
             ))
         }
     }
+}
+
+// The most nodes that any run has: those of 4,096 rows at m = 1.
+const MOST_NODES: usize = 8189;
+
+// The cuts, for a caller with no use for the nodes: their room is local.
+pub fn split_points(
+    cells: &[f64],
+    n: usize,
+    d: usize,
+    m: usize,
+    threshold: f64,
+    forbidden: &[usize],
+    layers: &[f64],
+    sums: &mut [f64],
+    rows: &mut [usize],
+    gains: &mut [f64],
+    cuts: &mut [usize],
+) -> Grown
+    ensures answer { λ r. ⌜ r ≡ grownOf (treeAnswer (now (cells .entry)) n d m threshold (now (forbidden .entry)) (now (layers .entry)) (roomOf (now (sums .entry)) (now (rows .entry)) (now (gains .entry)) nodeRoom (length (now (cuts .entry))))) ⌝ }
+    ensures sums { λ _. ⌜ now (sums .exit) ≡ holding (treeSums (now (cells .entry)) n d m threshold (now (forbidden .entry)) (now (layers .entry)) (roomOf (now (sums .entry)) (now (rows .entry)) (now (gains .entry)) nodeRoom (length (now (cuts .entry))))) (now (sums .entry)) ⌝ }
+    ensures rows { λ _. ⌜ now (rows .exit) ≡ holding (flatRows (treeRecords (now (cells .entry)) n d m threshold (now (forbidden .entry)) (now (layers .entry)) (roomOf (now (sums .entry)) (now (rows .entry)) (now (gains .entry)) nodeRoom (length (now (cuts .entry)))))) (now (rows .entry)) ⌝ }
+    ensures gains { λ _. ⌜ now (gains .exit) ≡ holding (gainsOf (treeRecords (now (cells .entry)) n d m threshold (now (forbidden .entry)) (now (layers .entry)) (roomOf (now (sums .entry)) (now (rows .entry)) (now (gains .entry)) nodeRoom (length (now (cuts .entry)))))) (now (gains .entry)) ⌝ }
+    ensures cuts { λ _. ⌜ now (cuts .exit) ≡ holding (treeCuts (now (cells .entry)) n d m threshold (now (forbidden .entry)) (now (layers .entry)) (roomOf (now (sums .entry)) (now (rows .entry)) (now (gains .entry)) nodeRoom (length (now (cuts .entry))))) (now (cuts .entry)) ⌝ }
+{
+    let mut nodes = [Node::without_choice(Position(0), Position(0)); MOST_NODES];
+    binary_segmentation(
+        cells,
+        n,
+        d,
+        m,
+        threshold,
+        forbidden,
+        layers,
+        sums,
+        rows,
+        gains,
+        &mut nodes,
+        cuts,
+    )
 }

@@ -172,7 +172,7 @@ Lasts (shared R ∷ ks) xs = Unit {0} × Lasts ks (xs .1)
 Lasts (plain D ∷ ks) xs = Last (D .row .exit yes) (xs .0) × Lasts ks (xs .1)
 
 -- the list under the name γ ends as l, which is as long as it was
-abbrev last-is : (R : RattleType) → GName → List (R .Denot) → List (R .Denot) → Fml
+abbrev pub last-is : (R : RattleType) → GName → List (R .Denot) → List (R .Denot) → Fml
 last-is R γ was l = fsep (finally R γ l) (feq ℕ (length l) (length was))
 
 abbrev pub lasts : (ks : List Kind) (xs : Args ks) → Names ks → Lasts ks xs → Fml
@@ -303,7 +303,7 @@ module _ {M : Type 1} (𝓤 : URA M) (H : Heap 𝓤) (A : Atoms 𝓤) where
     abbrev pub spent : (ks : List Kind) (xs : Args ks) → Lasts ks xs → Item 𝓤
     spent ks xs ws = raw (tokens ks xs (own ks xs)) ⊛ ‵ (lasts ks xs (own ks xs) ws)
 
-    says-list : (R : RattleType) (a : Unique (R .Denot)) (l : List (R .Denot)) → length l ≡ length (a .list) → ent 𝓤 (sem 𝓤 H A (slice R (at-list a l))) (sem 𝓤 H A (last-is R (a .γ) (a .list) l))
+    pub says-list : (R : RattleType) (a : Unique (R .Denot)) (l : List (R .Denot)) → length l ≡ length (a .list) → ent 𝓤 (sem 𝓤 H A (slice R (at-list a l))) (sem 𝓤 H A (last-is R (a .γ) (a .list) l))
     says-list R a l long =
         qed W (‵ (slice R (at-list a l)) ∷ []) ∵ fsplit ! $ drop ! $ fsplit ! $ use1 W (‵ (fres (a .γ) (codedHoleys R .code (heres R l)))) (W .names .obs-res (a .γ) _) $
         use1 W (‵ (finally R (a .γ) l)) (res-finally 𝓤 H A W erased (a .κ) R (a .γ) l) $ keep ! (0 ∷ []) $ feqI ! ℕ (length l) (length (a .list)) long $ move ! (1 ∷ 0 ∷ []) $ fjoin ! $ done !

@@ -9,5 +9,8 @@ pub mod First
 pub mod Locals
 pub mod Walk
 pub mod Calls
+pub mod Between
 pub mod Meets
+pub mod Arrays
+pub mod Front
 pub mod Clauses

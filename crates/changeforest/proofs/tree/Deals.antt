@@ -1,6 +1,7 @@
 -- What the functions that a walk calls ask and say, each as its contract has it, and the plain data that they pass. Assumes nothing.
 use mathlib.Core.List.{List, [], _∷_}
 use Prim.Native.Nat.{ℕ}
+use lib.Ieee.{Float}
 use lib.ListN.{length}
 use denote.Builtin.{usize, f64}
 use denote.Ref.{now}
@@ -11,6 +12,7 @@ use Rattle.lent.proofs.Held.{Kind, Deal, Args, Lasts, unique, shared, plain}
 use Rattle.lent.proofs.Clauses.{All}
 use Rattle.binary_segmentation.specs.declared.tree.Settings.{Settings}
 use Rattle.binary_segmentation.specs.declared.tree.Counts.{Counts}
+use Rattle.binary_segmentation.specs.Growth.{Lent}
 use Rattle.binary_segmentation.proofs.Data.{node, settings, counts}
 use Rattle.binary_segmentation.proofs.tree.Settings as settings′
 use Rattle.binary_segmentation.proofs.tree.Settings.Laws as settings″
@@ -18,7 +20,8 @@ use Rattle.changeforest.specs.declared.tree.Grown.{Grown}
 use Rattle.changeforest.specs.declared.tree.Grown.the-variants.{Counted, Refused}
 use Rattle.changeforest.specs.declared.tree.Prepared.{Prepared}
 use Rattle.changeforest.specs.declared.tree.Prepared.the-variants.{Seeded, Refused as Unprepared}
-use Rattle.changeforest.proofs.tree.Whole.{Call, preparing-says, growing-says}
+use Rattle.changeforest.specs.Answers.{nodeRoom}
+use Rattle.changeforest.proofs.tree.Whole.{Call, preparing-says, growing-says, splitting-says}
 use Rattle.changeforest.proofs.tree.Grown as grown′
 use Rattle.changeforest.proofs.tree.Grown.Laws as grown″
 use Rattle.changeforest.proofs.tree.Prepared as prepared′
@@ -79,5 +82,32 @@ abbrev pub grown-says : (xs : Args tree-ks) → Grown → Lasts tree-ks xs → L
 grown-says xs r (_, (_, (_, (_, (_, (_, (_, (sums′, (rows′, (gains′, (nodes′, (cuts′, _)))))))))))) =
     growing-says (callOf xs) (xs .1 .1 .1 .1 .1 .1 .1 .1 .1 .1 .0 .list) (xs .1 .1 .1 .1 .1 .1 .1 .1 .1 .1 .1 .0 .list) r sums′ (record { rows = rows′; gains = gains′; nodes = nodes′; cuts = cuts′ })
 
-abbrev pub answering : Deal
-answering = record { ks = tree-ks; res = grown; asks = λ _. Unit {0}; says = λ xs r ws. All (grown-says xs r ws) }
+abbrev pub treeing : Deal
+treeing = record { ks = tree-ks; res = grown; asks = λ _. Unit {0}; says = λ xs r ws. All (grown-says xs r ws) }
+
+-- ---- tree::split_points
+abbrev points-ks : List Kind
+points-ks = shared f64 ∷ plain word ∷ plain word ∷ plain word ∷ plain float ∷ shared usize ∷ shared f64 ∷ unique f64 ∷ unique usize ∷ unique f64 ∷ unique usize ∷ []
+
+-- the call, with room for k nodes
+abbrev pub call-with : Args points-ks → ℕ → Call
+call-with (cells, (n, (d, (m, (threshold, (forbidden, (layers, (sums, (rows, (gains, (cuts, _))))))))))) k = record {
+  cells = now (cells .x);
+  n = n;
+  d = d;
+  m = m;
+  threshold = threshold;
+  forbidden = now (forbidden .x);
+  layers = now (layers .x);
+  sums = sums .list;
+  rows = rows .list;
+  gains = gains .list;
+  nodes = k;
+  cuts = length (cuts .list);
+}
+
+abbrev pub split-says : (xs : Args points-ks) → Grown → Lasts points-ks xs → List (Type 0)
+split-says xs r (_, (_, (_, (_, (_, (_, (_, (sums′, (rows′, (gains′, (cuts′, _))))))))))) = splitting-says (call-with xs nodeRoom) (xs .1 .1 .1 .1 .1 .1 .1 .1 .1 .1 .0 .list) r sums′ rows′ gains′ cuts′
+
+abbrev pub splitting : Deal
+splitting = record { ks = points-ks; res = grown; asks = λ _. Unit {0}; says = λ xs r ws. All (split-says xs r ws) }

@@ -30,7 +30,7 @@ use denote.Triple.Spec.{Meets, tripleOf}
 use denote.Triple.Table.{entered}
 use Rattle.lent.proofs.Data.{word}
 use Rattle.lent.proofs.Held.{Args, values, handed, holds, common}
-use Rattle.lent.proofs.Locals.{somes, holding}
+use Rattle.lent.proofs.Locals.{empty, fulls, holding}
 use Rattle.lent.proofs.Walk.{Walk, copies, returning}
 use Rattle.lent.proofs.Meets.{Done, Walked, finishes, meets}
 use Rattle.binary_segmentation.specs.declared.node.Node.{Node}
@@ -63,7 +63,7 @@ module _ {M : Type 1} (𝓤 : URA M) (H : Heap 𝓤) (A : Atoms 𝓤) (W : Given
       let x = getD ys i blank in
       let bytes : i * 72 < 2 ^ 64 = byte-fits (good .0 .1) within in
       let spot = place 72 o i in
-      let vs = holding 5 (node .mach x) (holding 4 (vptr b spot) (holding 3 (word .mach (i * 72)) (none ∷ somes (values (reading .ks) xs)))) in
+      let vs = holding 5 (node .mach x) (holding 4 (vptr b spot) (holding 3 (word .mach (i * 72)) (empty ∷ fulls (values (reading .ks) xs)))) in
       let ended : Is R x (node .mach x ∷ []) → Walk (Go {0}) W (𝓣 .C) (𝓣 .Λ) (code.function .locals) pl (Done 𝓤 H A W reading xs) (holds 𝓤 H A (reading .ks) xs) vs [] _ =
       λ is. copies ! refl refl (returning ! refl refl (finishes 𝓤 H A W reading xs x (tt, (tt, tt)) is tt refl)) in
       record {

@@ -1,7 +1,6 @@
 -- `put_node` meets its contract: a walk of its MIR, by hand. The place of the element is computed, the borrow of the slice is opened, the element is taken out of the row and stored to whole, the new
 -- node is put in its place, and the borrow is closed at the new list. Assumes nothing.
 use mathlib.Core.Path.{_≡_, refl, sym, _∙_, ap, subst}
-use mathlib.Core.Option.{none}
 use Prim.Native.Nat.{ℕ, _<_, _^_, _*_}
 use native.Mathlib.Omega.{arith}
 use mathlib.Core.List.{List, [], _∷_}
@@ -31,7 +30,7 @@ use denote.Triple.Spec.{Meets, tripleOf}
 use denote.Triple.Table.{entered}
 use Rattle.lent.proofs.Data.{word}
 use Rattle.lent.proofs.Held.{Args, Lasts, values, handed, holds, changed}
-use Rattle.lent.proofs.Locals.{somes, holding}
+use Rattle.lent.proofs.Locals.{empty, fulls, holding}
 use Rattle.lent.proofs.Walk.{Walk, returning}
 use Rattle.lent.proofs.Meets.{Done, Walked, finishes, meets}
 use Rattle.binary_segmentation.specs.declared.node.Node.{Node}
@@ -61,7 +60,7 @@ module _ {M : Type 1} (𝓤 : URA M) (H : Heap 𝓤) (A : Atoms 𝓤) (W : Given
       let spot = place 72 (a .o) i in
       let same : length zs ≡ a .m = length-set (a .list) i n ∙ len in
       let ws : Lasts (putting .ks) xs = (zs, (tt, (tt, tt))) in
-      let vs = holding 0 vunit (holding 5 (vptr (a .b) spot) (holding 4 (word .mach (i * 72)) (none ∷ somes (values (putting .ks) xs)))) in
+      let vs = holding 0 vunit (holding 5 (vptr (a .b) spot) (holding 4 (word .mach (i * 72)) (empty ∷ fulls (values (putting .ks) xs)))) in
       let ended : Walk (Go {0}) W (𝓣 .C) (𝓣 .Λ) (code.function .locals) pl (Done 𝓤 H A W putting xs) (holds 𝓤 H A (putting .ks) (changed (putting .ks) xs ws)) vs [] return = returning ! refl refl (finishes 𝓤 H A W putting xs tt ws refl (length-set (a .list) i n, tt) refl) in
       record {
         run =

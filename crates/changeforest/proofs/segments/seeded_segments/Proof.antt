@@ -54,7 +54,7 @@ seed-segments-requires : tie.Need-seed-segments-requires
 seed-segments-requires c κs =
     let f = facts (c .before .before .before .before .before .before .before .before) in
     let s = c .before .before .before .before .before .before .before .before .before .before .before .before .before .before .before .before .before .args in
-    ((f .sums .shape .rows .1, f .length-fits, rw (c .before .before .before .sums-len .ensures) (row-within (s .n) (s .n) (s .d) _ (omega arith) (omega (arith, f .sums .fits)))), (f .layers-right, (omega (arith, f .fits), omega (arith, f .fits))))
+    ((f .sums .shape .rows .1, omega (arith, f .length-fits), rw (c .before .before .before .sums-len .ensures) (row-within (s .n) (s .n) (s .d) _ (omega arith) (omega (arith, f .sums .fits)))), (f .layers-right, (omega (arith, f .fits), omega (arith, f .fits))))
 
 returns-2 : tie.Need-returns-2
 unfolding seededAnswer seededSums seededRecords
