@@ -1,15 +1,22 @@
 // A case: what its line says, read part by part. Each method reads the parts that its comment names in docs/REPLAY.md's words, and a
 // kind reads its line by one method after another. After a part that isn't there `next` is NOWHERE, and nothing more is read.
 use crate::fields;
+use crate::fields::Number;
 use crate::lent::Short;
+use crate::lent::minus;
 use crate::lent::plus;
 use crate::writing::TOO_LARGE;
 use crate::writing::UNKNOWN;
 
-// Capacities of lists.
+// Capacities of lists; PERMS has that of CELLS.
 pub const CELLS: usize = 16384;
 
+pub const CURVE: usize = 4097;
+
 pub const FORBIDDEN: usize = 256;
+
+// How many curves of a `perm`, and how many of their bases, are lent.
+pub const CURVES: usize = 3;
 
 // `-`, by its letters (fields.rt).
 const DASH: usize = 0x12d;
@@ -30,9 +37,13 @@ pub struct Case {
     pub stop: usize,
     pub split: usize,
     pub value: f64,
-    // How many values are listed, and how many of them before the last list.
+    pub p: usize,
+    pub maximum: f64,
+    pub k: usize,
+    // How many values are listed, how many of them before the last list, and how many before the last two.
     pub values: usize,
     pub before: usize,
+    pub earlier: usize,
     // How many numbers are listed, and whether a forbidden list is given.
     pub numbers: usize,
     pub given: bool,
@@ -54,8 +65,12 @@ impl Case {
             stop: 0,
             split: 0,
             value: 0.0,
+            p: 0,
+            maximum: 0.0,
+            k: 0,
             values: 0,
             before: 0,
+            earlier: 0,
             numbers: 0,
             given: false,
         }
@@ -99,11 +114,16 @@ impl Case {
             self.next = word.next;
             return self;
         }
+        self.given = true;
+        self.number_list(line, numbers, FORBIDDEN)
+    }
+
+    // PERMS, and a forbidden list that is given, with its capacity.
+    pub fn number_list(mut self, line: &[u8], numbers: &mut [usize], capacity: usize) -> Case {
         let count = fields::number_at(line, self.next);
         let list = fields::numbers_at(line, count, numbers, self.numbers);
-        self.larger = self.larger || list.is > FORBIDDEN;
+        self.larger = self.larger || list.is > capacity;
         self.numbers = plus(self.numbers, list.is);
-        self.given = true;
         self.next = list.next;
         self
     }
@@ -118,7 +138,12 @@ impl Case {
         self
     }
 
-    // SPLIT
+    // M F START STOP
+    pub fn segment(self, line: &[u8], numbers: &mut [usize]) -> Case {
+        self.length(line).forbidden(line, numbers).ends(line)
+    }
+
+    // SPLIT, GUESS
     pub fn split(mut self, line: &[u8]) -> Case {
         let split = fields::number_at(line, self.next);
         self.split = split.is;
@@ -126,11 +151,53 @@ impl Case {
         self
     }
 
-    // R, X
+    // R, X, ALPHA
     pub fn value(mut self, line: &[u8]) -> Case {
         let value = fields::value_at(line, self.next);
         self.value = value.is;
         self.next = value.next;
+        self
+    }
+
+    // P MAX
+    pub fn observed(mut self, line: &[u8]) -> Case {
+        let p = fields::number_at(line, self.next);
+        let maximum = fields::value_at(line, p.next);
+        self.p = p.is;
+        self.maximum = maximum.is;
+        self.next = maximum.next;
+        self
+    }
+
+    // K BASE..; room for those lent stands before the lists.
+    pub fn bases(mut self, line: &[u8], values: &mut [f64]) -> Case {
+        let k = fields::number_at(line, self.next);
+        let bases = fields::values_at(line, k, values, 0);
+        self.k = k.is;
+        self.values = CURVES;
+        self.next = bases.next;
+        self
+    }
+
+    // The list of DELTAS that comes after `i` others; an empty one where there are no more than those.
+    pub fn deltas(mut self, line: &[u8], values: &mut [f64], i: usize) -> Case {
+        if i < self.k {
+            return self.list(line, values, CURVE);
+        }
+        self.earlier = self.before;
+        self.before = self.values;
+        self
+    }
+
+    // The lists of DELTAS that aren't lent.
+    pub fn more_deltas(mut self, line: &[u8], values: &mut [f64]) -> Case {
+        let count = Number {
+            is: minus(self.k, CURVES),
+            next: self.next,
+        };
+        let longest = fields::lists_at(line, count, values);
+        self.larger = self.larger || longest.is > CURVE;
+        self.next = longest.next;
         self
     }
 
@@ -139,6 +206,7 @@ impl Case {
         let count = fields::number_at(line, self.next);
         let list = fields::values_at(line, count, values, self.values);
         self.larger = self.larger || list.is > capacity;
+        self.earlier = self.before;
         self.before = self.values;
         self.values = plus(self.values, list.is);
         self.next = list.next;

@@ -1,5 +1,6 @@
 // A line's fields, parted by single blanks: numbers, values, words, lists. A field is named by the place where it begins. Reading it
 // tells where the next one begins, one past the line's end after the last; NOWHERE where the field is missing or isn't what is read.
+use crate::lent::most;
 use crate::lent::plus;
 use bytes::scan;
 
@@ -173,6 +174,24 @@ pub fn values_at(line: &[u8], count: Number, into: &mut [f64], from: usize) -> N
         i += 1;
     }
     Number { is: n, next }
+}
+
+// Lists of values, which are put nowhere: how many entries the longest has.
+pub fn lists_at(line: &[u8], count: Number, values: &mut [f64]) -> Number {
+    let n = count.is;
+    let mut next = count.next;
+    let mut longest = 0;
+    let mut i = 0;
+    while i < n {
+        let list = values_at(line, number_at(line, next), values, NOWHERE);
+        next = list.next;
+        if next == NOWHERE {
+            return Number { is: 0, next };
+        }
+        longest = most(longest, list.is);
+        i += 1;
+    }
+    Number { is: longest, next }
 }
 
 fn put_number(into: &mut [usize], at: usize, n: usize) {

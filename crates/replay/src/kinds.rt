@@ -1,19 +1,24 @@
 // From a line to its answer: the kind picks the function that reads the line, and the one that calls and writes.
+use crate::cases::CELLS;
 use crate::cases::Case;
-use crate::cases::FORBIDDEN;
+use crate::curves;
 use crate::fields;
 use crate::fields::NOWHERE;
 use crate::lengths;
+use crate::lent::NUMBER;
 use crate::lent::Short;
+use crate::lent::VALUE;
 use crate::lent::least;
 use crate::mean;
+use crate::neighbours;
+use crate::two_step;
 use crate::writing;
 use crate::writing::OUT;
 
 // Room for all values, and all numbers, that an admitted line lists.
 const VALUES: usize = 16484;
 
-const NUMBERS: usize = FORBIDDEN;
+const NUMBERS: usize = CELLS;
 
 // The words, by their letters (fields.rt).
 const SHORT: usize = 0x173_686f_7274;
@@ -28,9 +33,21 @@ const GAIN: usize = 0x1_6761_696e;
 
 const SEARCH: usize = 0x1_7365_6172_6368;
 
+const ORDER: usize = 0x16f_7264_6572;
+
+const KNN: usize = 0x16b_6e6e;
+
+const CURVE: usize = 0x163_7572_7665;
+
+const PICK: usize = 0x1_7069_636b;
+
+const GUESSES: usize = 0x167_7565_7373_6573;
+
+const PERM: usize = 0x1_7065_726d;
+
 pub fn answer(line: &[u8], out: &mut [u8; OUT], waiting: usize) -> usize {
-    let mut values = [0.0; VALUES];
-    let mut numbers = [0usize; NUMBERS];
+    let mut values = [VALUE; VALUES];
+    let mut numbers = [NUMBER; NUMBERS];
     let case = read(opened(line), line, &mut values, &mut numbers);
     let no = case.wrong(line);
     if no != 0 {
@@ -77,6 +94,24 @@ fn read(case: Case, line: &[u8], values: &mut [f64], numbers: &mut [usize]) -> C
     if kind == SEARCH {
         return mean::read_search(case, line, values, numbers);
     }
+    if kind == ORDER {
+        return neighbours::read_order(case, line, values);
+    }
+    if kind == KNN {
+        return neighbours::read_knn(case, line, values);
+    }
+    if kind == CURVE {
+        return curves::read_curve(case, line, values);
+    }
+    if kind == PICK {
+        return two_step::read_pick(case, line, values, numbers);
+    }
+    if kind == GUESSES {
+        return two_step::read_guesses(case, line, numbers);
+    }
+    if kind == PERM {
+        return curves::read_perm(case, line, values, numbers);
+    }
     Case::new(0, case.short, NOWHERE)
 }
 
@@ -100,5 +135,23 @@ fn call(
     if kind == GAIN {
         return mean::gain(case, values, out, waiting);
     }
-    mean::search(case, values, numbers, out, waiting)
+    if kind == SEARCH {
+        return mean::search(case, values, numbers, out, waiting);
+    }
+    if kind == ORDER {
+        return neighbours::order(case, values, out, waiting);
+    }
+    if kind == KNN {
+        return neighbours::knn(case, values, out, waiting);
+    }
+    if kind == CURVE {
+        return curves::curve(case, values, out, waiting);
+    }
+    if kind == PICK {
+        return two_step::pick(case, values, numbers, out, waiting);
+    }
+    if kind == GUESSES {
+        return two_step::guesses(case, numbers, out, waiting);
+    }
+    curves::perm(case, values, numbers, out, waiting)
 }

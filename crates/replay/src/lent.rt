@@ -8,13 +8,19 @@ pub struct Short {
     pub less: usize,
 }
 
-// What lent values, and lent numbers, are filled with.
+// What lent values, lent numbers and lent places are filled with. None is one byte repeated: a shifted entry shows, and no array is
+// filled byte by byte (under the kit's emulator that took ten times as long).
 pub const VALUE: f64 = -3.25e-200;
 
-pub const NUMBER: usize = 11936128518282651045;
+pub const NUMBER: usize = 0xa5a5_a5a5_dead_beef;
+
+pub const PLACE: u32 = 0xdead_beef;
 
 // Every slice is lent longer than document 01 asks.
 const LONGER: usize = 3;
+
+// Room for the values that a call tells: for a curve, and for what is lent longer.
+pub const OUTPUT: usize = 4100;
 
 // How many entries of slice number `slice` are lent: `asked` are asked, `whole` are there.
 pub fn length(asked: usize, whole: usize, short: Short, slice: usize) -> usize
@@ -24,6 +30,11 @@ pub fn length(asked: usize, whole: usize, short: Short, slice: usize) -> usize
         return least(minus(asked, short.less), whole);
     }
     least(plus(asked, LONGER), whole)
+}
+
+// How many entries are told: those asked, and after a refusal none.
+pub fn told(no: u32, asked: usize) -> usize {
+    if no == 0 { asked } else { 0 }
 }
 
 // A refusal's number; a refusal for want of room that isn't there is `too large`.
@@ -38,6 +49,10 @@ pub fn least(a: usize, b: usize) -> usize
     ensures { λ r. ⌜ r ≤ b ⌝ }
 {
     if a < b { a } else { b }
+}
+
+pub fn most(a: usize, b: usize) -> usize {
+    if a < b { b } else { a }
 }
 
 // a + b, or the greatest number.
@@ -96,8 +111,37 @@ pub fn kept_numbers(lent: &[usize], from: usize, to: usize) -> bool {
     true
 }
 
-// Whether both begin with the same `count` values.
+pub fn kept_places(lent: &[u32], from: usize, to: usize) -> bool {
+    let end = least(to, lent.len());
+    let mut i = from;
+    while i < end {
+        if lent[i] != PLACE {
+            return false;
+        }
+        i += 1;
+    }
+    true
+}
+
+// Whether both begin with the same `count` values, or places.
 pub fn same_values(a: &[f64], b: &[f64], count: usize) -> bool {
+    if count > a.len() {
+        return false;
+    }
+    if count > b.len() {
+        return false;
+    }
+    let mut i = 0;
+    while i < count {
+        if a[i] != b[i] {
+            return false;
+        }
+        i += 1;
+    }
+    true
+}
+
+pub fn same_places(a: &[u32], b: &[u32], count: usize) -> bool {
     if count > a.len() {
         return false;
     }

@@ -12,8 +12,11 @@ mod reading;
 mod writing;
 
 // The kinds, by the modules of the entry points.
+mod curves;
 mod lengths;
 mod mean;
+mod neighbours;
+mod two_step;
 
 fn main() {
     let mut line = [0u8; reading::LONGEST];

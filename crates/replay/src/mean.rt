@@ -1,5 +1,6 @@
 // From matrix to search: `cand`, `gain`, `search`.
 use crate::cases::CELLS;
+use crate::cases::CURVE;
 use crate::cases::Case;
 use crate::lent;
 use crate::writing;
@@ -10,15 +11,11 @@ use changeforest::mean::Gained;
 use optimizer::optimizer_result::BestSplit;
 use rows::Position;
 
-const CANDIDATES: usize = 4097;
+const CANDIDATES: usize = CURVE;
 
 // N M F START STOP
 pub fn read_cand(case: Case, line: &[u8], numbers: &mut [usize]) -> Case {
-    case.rows(line)
-        .length(line)
-        .forbidden(line, numbers)
-        .ends(line)
-        .lending(1)
+    case.rows(line).segment(line, numbers).lending(1)
 }
 
 pub fn cand(case: Case, forbidden: &[usize], out: &mut [u8; OUT], waiting: usize) -> usize {
@@ -119,11 +116,10 @@ fn refuse_sums(
 
 // N D M F START STOP CELLS
 pub fn read_search(case: Case, line: &[u8], values: &mut [f64], numbers: &mut [usize]) -> Case {
-    let searched = case.size(line)
-        .length(line)
-        .forbidden(line, numbers)
-        .ends(line);
-    searched.list(line, values, CELLS).lending(1)
+    case.size(line)
+        .segment(line, numbers)
+        .list(line, values, CELLS)
+        .lending(1)
 }
 
 pub fn search(

@@ -1,5 +1,7 @@
 // The answers. Their bytes wait in a buffer, which is written out when it is full. Each function here adds to it: it takes how many
 // bytes wait, and answers how many wait then.
+use crate::lent;
+use crate::lent::OUTPUT;
 use crate::lent::least;
 use libc::STDOUT_FILENO;
 
@@ -77,6 +79,22 @@ pub fn value_f32(out: &mut [u8; OUT], waiting: usize, x: f32) -> usize {
     hex(out, waiting, bits_of_f32(x) as u64, 8)
 }
 
+// The first `count` of a list of places.
+pub fn places(out: &mut [u8; OUT], waiting: usize, list: &[u32], count: usize) -> usize {
+    let n = least(count, list.len());
+    let mut now = waiting;
+    let mut i = 0;
+    while i < n {
+        now = number(out, now, wide(list[i]));
+        i += 1;
+    }
+    now
+}
+
+fn wide(place: u32) -> usize {
+    place as usize
+}
+
 // The first `count` of a list, and the line's end.
 pub fn numbers_end(
     out: &mut [u8; OUT],
@@ -129,6 +147,25 @@ pub fn ok_number(out: &mut [u8; OUT], waiting: usize, n: usize) -> usize {
 pub fn ok_value(out: &mut [u8; OUT], waiting: usize, x: f64) -> usize {
     let waiting = word(out, waiting, b"ok");
     value(out, waiting, x)
+}
+
+// The line of a call that tells `asked` values, of a slice that was lent `length` entries long. `others` tells whether its other slices
+// are kept.
+pub fn output(
+    out: &mut [u8; OUT],
+    waiting: usize,
+    no: u32,
+    list: &[f64; OUTPUT],
+    asked: usize,
+    length: usize,
+    others: bool,
+) -> usize {
+    let kept = others & lent::kept_values(list, lent::told(no, asked), length);
+    if no != 0 {
+        return refused(out, waiting, no, kept);
+    }
+    let waiting = word(out, waiting, b"ok");
+    values_end(out, waiting, list, asked, kept)
 }
 
 // The line of a split and its gain.

@@ -286,3 +286,37 @@ pub fn at_limit(random: &mut Random, kind: &'static str) -> Draft {
     }
     draft
 }
+
+/// A case that the others seldom or never come to. A kind that has none gives a case at a limit.
+pub fn at_edge(random: &mut Random, kind: &'static str) -> Draft {
+    let mut draft = draft(random, kind);
+    match kind {
+        "order" | "knn" => {
+            let n = random.of(&[100, 200, 511, 1_025]);
+            matrix(random, &mut draft, n, 1);
+            (draft.start, draft.stop, draft.split) = (random.below(n), n, n);
+        }
+        "pick" => draft.n = draft.stop.saturating_sub(random.below(2)).max(1),
+        "perm" => many(random, &mut draft),
+        _ => return at_limit(random, kind),
+    }
+    draft
+}
+
+/// Permutations up to P's limit or past it, or curves past those that are lent.
+fn many(random: &mut Random, draft: &mut Draft) {
+    let few = random.of(&[3, 5, 7, 16]);
+    let (p, length) = random.of(&[(999, few), (999, few), (1_000, few), (5, 3_277), (2, few)]);
+    let count = if p == 2 { random.between(4, 6) } else { random.between(1, 3) };
+    (draft.p, draft.m) = (p, random.between(1, (few - 1) / 2));
+    draft.curves = (0..count).map(|_| values::values(random, length)).collect();
+    draft.bases = values::values(random, count);
+    permutations(random, draft, length);
+    draft.max = maximum(random, draft);
+    match random.below(3) {
+        0 if count > 3 => draft.curves[3][0] = values::not_finite(random),
+        1 if count > 3 => draft.curves[3] = vec![0.0; random.of(&[1, 4_097, 4_098])],
+        2 if count > 3 => draft.bases[3] = values::not_finite(random),
+        _ => draft.value = random.between(1, p) as f64 / (p + 1) as f64,
+    }
+}

@@ -12,12 +12,16 @@ use kinds::KINDS;
 use random::Random;
 use std::io::Write;
 
-/// Sorts that may be named beside the kinds, of any kind each.
+/// Sorts that may be named beside the kinds: of the kinds named, or of any where none is.
 const LIMIT: &str = "limit";
+const EDGE: &str = "edge";
 const UNKNOWN: &str = "unknown";
 
-fn line(random: &mut Random, sort: &'static str) -> String {
-    let kind = if KINDS.contains(&sort) { sort } else { random.of(&KINDS) };
+fn line(random: &mut Random, sort: &'static str, kinds: &[&'static str]) -> String {
+    let kind = if KINDS.contains(&sort) { sort } else { random.of(kinds) };
+    if sort == EDGE {
+        return kinds::at_edge(random, kind).line();
+    }
     if sort == LIMIT || random.one_in(4_000) {
         return kinds::at_limit(random, kind).line();
     }
@@ -45,20 +49,25 @@ fn case(random: &mut Random, kind: &'static str) -> String {
 
 fn main() {
     let arguments: Vec<String> = std::env::args().skip(1).collect();
-    let sorts = KINDS.into_iter().chain([LIMIT, UNKNOWN]);
+    let sorts = KINDS.into_iter().chain([LIMIT, EDGE, UNKNOWN]);
     let known = |name: &String| sorts.clone().find(|sort| sort == name);
     let number = |place: usize| arguments.get(place).and_then(|word| word.parse::<u64>().ok());
     let named: Option<Vec<&'static str>> = arguments.iter().skip(2).map(known).collect();
     let (Some(seed), Some(count), Some(named)) = (number(0), number(1), named) else {
-        eprintln!("generate SEED COUNT [KIND..], of {} {LIMIT} {UNKNOWN}", KINDS.join(" "));
+        eprintln!("generate SEED COUNT [KIND..], of {} {LIMIT} {EDGE} {UNKNOWN}", KINDS.join(" "));
         std::process::exit(2)
     };
     let sorts = if named.is_empty() { KINDS.to_vec() } else { named };
+    let mut kinds = sorts.clone();
+    kinds.retain(|sort| KINDS.contains(sort));
+    if kinds.is_empty() {
+        kinds = KINDS.to_vec();
+    }
     let mut random = Random(seed);
     let mut output = std::io::BufWriter::new(std::io::stdout().lock());
     for _ in 0..count {
         let sort = random.of(&sorts);
-        if writeln!(output, "{}", line(&mut random, sort)).is_err() {
+        if writeln!(output, "{}", line(&mut random, sort, &kinds)).is_err() {
             return;
         }
     }

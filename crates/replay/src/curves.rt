@@ -1,0 +1,102 @@
+// Gain curves and the permutation test: `curve`, `perm`.
+use crate::cases::CELLS;
+use crate::cases::CURVE;
+use crate::cases::CURVES;
+use crate::cases::Case;
+use crate::lent;
+use crate::lent::OUTPUT;
+use crate::lent::least;
+use crate::writing;
+use crate::writing::OUT;
+use changeforest::curves;
+use changeforest::curves::Permuted;
+use changeforest::curves::TestResult;
+
+// L0 L1
+pub fn read_curve(case: Case, line: &[u8], values: &mut [f64]) -> Case {
+    let first = case.list(line, values, CURVE);
+    first.list(line, values, CURVE).lending(1)
+}
+
+pub fn curve(case: Case, values: &[f64], out: &mut [u8; OUT], waiting: usize) -> usize {
+    let mut gains = [lent::VALUE; OUTPUT];
+    let end = values.len();
+    let asked = least(case.before, end);
+    let length = lent::length(asked, OUTPUT, case.short, 1);
+    let no = curves::gain_from_likelihoods(
+        &values[0..asked],
+        &values[asked..end],
+        &mut gains[0..length],
+    );
+    writing::output(out, waiting, no, &gains, asked, length, true)
+}
+
+// M ALPHA P MAX K BASE.. DELTAS.. PERMS
+pub fn read_perm(case: Case, line: &[u8], values: &mut [f64], numbers: &mut [usize]) -> Case {
+    let tested = case.length(line).value(line).observed(line);
+    read_curves(tested, line, values).number_list(line, numbers, CELLS)
+}
+
+// K BASE.. DELTAS..
+fn read_curves(case: Case, line: &[u8], values: &mut [f64]) -> Case {
+    let based = case.bases(line, values);
+    read_lent(based, line, values).more_deltas(line, values)
+}
+
+// DELTAS.. of the curves that are lent.
+fn read_lent(case: Case, line: &[u8], values: &mut [f64]) -> Case {
+    let first = case.deltas(line, values, 0);
+    let second = first.deltas(line, values, 1);
+    second.deltas(line, values, 2)
+}
+
+pub fn perm(
+    case: Case,
+    values: &[f64],
+    permutations: &[usize],
+    out: &mut [u8; OUT],
+    waiting: usize,
+) -> usize {
+    let end = values.len();
+    let third = least(case.before, end);
+    let second = least(case.earlier, third);
+    let first = least(CURVES, second);
+    let answer = curves::permutation_test(
+        &values[first..second],
+        &values[second..third],
+        &values[third..end],
+        base(values, 0),
+        base(values, 1),
+        base(values, 2),
+        case.k,
+        permutations,
+        case.p,
+        case.m,
+        case.value,
+        case.maximum,
+    );
+    write_perm(answer, out, waiting)
+}
+
+// The bases stand before the curves. One past the count isn't looked at: the pattern of lent values stands there.
+fn base(values: &[f64], i: usize) -> f64 {
+    if i < values.len() { values[i] } else { 0.0 }
+}
+
+fn write_perm(answer: Permuted, out: &mut [u8; OUT], waiting: usize) -> usize {
+    match answer {
+        Permuted::Tested(result) => write_test(result, out, waiting),
+        Permuted::Refused(no) => writing::refused(out, waiting, no, true),
+    }
+}
+
+fn write_test(result: TestResult, out: &mut [u8; OUT], waiting: usize) -> usize {
+    let waiting = writing::ok_number(out, waiting, result.counter);
+    let waiting = writing::value(out, waiting, result.p_value);
+    let waiting = writing::number(out, waiting, bit(result.is_significant));
+    writing::end(out, waiting, true)
+}
+
+fn bit(b: bool) -> usize {
+    if b { 1 } else { 0 }
+}
