@@ -35,7 +35,7 @@ module _ (cells₀ : List Float) (forbidden₀ : List ℕ) (g : Given) (cells : 
       (λ t. rw (t, count-same (e .n * e .d) (length (e .cells)) (ltb-false 2048 (e .n * e .d) t))))
 
   -- all of up to 64 pairs are held
-  held : told .kept .count ≤ 64 → take (2 * g .pairs) forbidden ≡ told .deck .forbidden
+  pub held : told .kept .count ≤ 64 → take (2 * g .pairs) forbidden ≡ told .deck .forbidden
   held h =
       let ps = told .deck .forbidden in
       let long : length ps ≡ 2 * g .pairs = omega (arith, told .kept .flat, told .kept .pairs-counted) in

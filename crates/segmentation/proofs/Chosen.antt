@@ -21,15 +21,15 @@ pub record SoFar (rows : List ℕ) (gains : List Float) (count start stop : ℕ)
   pub same : best b (inside start stop (left rows gains count k)) ≡ best direct (inside start stop (recordsIn rows gains count))
 
 module _ (rows : List ℕ) (gains : List Float) (count : ℕ) where
-  left-all : left rows gains count 0 ≡ recordsIn rows gains count
+  pub left-all : left rows gains count 0 ≡ recordsIn rows gains count
   unfolding left
   left-all = let e : count - 0 ≡ count = omega arith in rw e
 
-  left-none : (k : ℕ) → count ≤ k → left rows gains count k ≡ []
+  pub left-none : (k : ℕ) → count ≤ k → left rows gains count k ≡ []
   unfolding left recordsIn
   left-none k h = let e : count - k ≡ 0 = omega arith in rw e
 
-  left-next : (k : ℕ) → k < count → left rows gains count k ≡ recordAt rows gains k ∷ left rows gains count (k + 1)
+  pub left-next : (k : ℕ) → k < count → left rows gains count k ≡ recordAt rows gains k ∷ left rows gains count (k + 1)
   unfolding left recordsIn
   left-next k h =
       let e : count - k ≡ suc (count - (k + 1)) = omega arith in

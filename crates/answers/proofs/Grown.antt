@@ -1,0 +1,144 @@
+-- What the tree of a deck leaves in lent memory, and the text that is written from it. Assumes nothing.
+use mathlib.Core.Path.{_≡_, refl}
+use mathlib.Core.List.{List, [], _∷_}
+use Prim.Native.Nat.{ℕ, zero, suc, _+_, _≤_}
+use native.Mathlib.Omega.{arith}
+use borrow.Author.Tests.{ltb-false}
+use lib.Ieee.{Float, ofBits, binary64}
+use lib.ListN.{length, take, length-map}
+use lib.Seq.{take-at}
+use Rattle.scope.specs.Lists.{holding}
+use Rattle.scope.specs.Refusals.{refused, unless}
+use Rattle.scope.specs.Grid.{Record}
+use Rattle.scope.specs.Layers.{seeded, layersTotal, stored}
+use Rattle.scope.specs.Text.{bytes, decimal, line}
+use Rattle.scope.specs.Tree.{Run, Tree, seedRecords, treeOf, recordsOf, nodeCount, cuts, sheet, mostNodes}
+use Rattle.scope.specs.Calls.{Room, countsOf, treeTests, treeRefusal, treeAnswer, treeRecords, treeCuts}
+use Rattle.scope.specs.Program.{sheetText, judgedText}
+use Rattle.control.proofs.Sizes.{matrix, inside}
+use Rattle.control.proofs.Clean.{passed}
+use Rattle.segmentation.specs.Flat.{flatRows, gainsOf, recordsIn}
+use Rattle.segmentation.proofs.Flat.{records-told}
+use Rattle.binary_segmentation.proofs.Demand.{demand, records-fit}
+use Rattle.line.specs.declared.Given.{Given}
+use Rattle.deck.specs.Limits.{givenRefusal}
+use Rattle.answers.specs.Answered.{cellsHeld, pairsHeld, runHeld, lent, treeNumber, Grew, givenText, sheetOf}
+use Rattle.changeforest.specs.Answers.{grownOf, nodeRoom, roomOf}
+use Rattle.changeforest.specs.declared.tree.Grown.{Grown}
+use Rattle.changeforest.specs.declared.tree.Grown.the-variants as grown
+use Rattle.binary_segmentation.specs.declared.tree.Counts.{Counts as Counted}
+use Rattle.answers.proofs.Lookup.{lines-are}
+
+-- the room that the types give
+pub room-is : (sums : List Float) (rows : List ℕ) (gains : List Float) (cuts : List ℕ) → length sums ≡ 2112 → length rows ≡ 1527 → length gains ≡ 509 → length cuts ≡ 254
+    → roomOf sums rows gains nodeRoom (length cuts) ≡ lent
+room-is sums rows gains cuts a b c d = rw (a, b, c, d)
+
+-- what the call for the tree ensures is what `Grew` says
+module _ (g : Given) (cells : List Float) (forbidden : List ℕ) (threshold : Float) (sums : List Float) (rows : List ℕ) (gains : List Float) (cuts : List ℕ) where
+  abbrev room : Room
+  room = roomOf sums rows gains nodeRoom (length cuts)
+
+  pub grew : (rows′ : List ℕ) (gains′ : List Float) (cuts′ : List ℕ) (r : Grown)
+      → threshold ≡ ofBits binary64 (g .threshold)
+      → room ≡ lent
+      → r ≡ grownOf (treeAnswer (cellsHeld g cells) (g .n) (g .d) (g .m) threshold (pairsHeld g forbidden) [] room)
+      → rows′ ≡ holding (flatRows (treeRecords (cellsHeld g cells) (g .n) (g .d) (g .m) threshold (pairsHeld g forbidden) [] room)) rows
+      → gains′ ≡ holding (gainsOf (treeRecords (cellsHeld g cells) (g .n) (g .d) (g .m) threshold (pairsHeld g forbidden) [] room)) gains
+      → cuts′ ≡ holding (treeCuts (cellsHeld g cells) (g .n) (g .d) (g .m) threshold (pairsHeld g forbidden) [] room) cuts
+      → Grew g cells forbidden rows gains cuts rows′ gains′ cuts′ r
+  unfolding treeNumber treeAnswer treeRecords treeCuts
+  grew rows′ gains′ cuts′ r t e a b c d = record { answer-is = rw (t, e) at a; rows-are = rw (t, e) at b; gains-are = rw (t, e) at c; cuts-are = rw (t, e) at d }
+
+-- ---- the text
+sheet-long : (t : Tree) → length (sheet t) ≡ length (cuts t)
+unfolding sheet
+sheet-long t = length-map (cuts t) (λ (r : Record). r .split)
+
+-- the deck's own refusal is written first
+pub deck-refused : (g : Given) (cells : List Float) (forbidden : List ℕ) (k : ℕ) → k ≡ givenRefusal g forbidden → (k ≡ 0 → ⊥) → line (bytes "refused" ∷ decimal k ∷ []) ≡ givenText g cells forbidden
+unfolding givenText
+deck-refused g cells forbidden zero e h = absurd (h refl)
+deck-refused g cells forbidden (suc k) e h = rw (← e)
+
+module _ (g : Given) (cells : List Float) (forbidden : List ℕ) (judged : givenRefusal g forbidden ≡ 0) where
+  abbrev q : Run
+  q = runHeld g cells forbidden
+
+  -- a number is written as the refusal that it is
+  pub refused-text : (k : ℕ) → grown.Refused k ≡ grownOf (unless (treeNumber g cells forbidden) (countsOf q)) → line (bytes "refused" ∷ decimal k ∷ []) ≡ givenText g cells forbidden
+  unfolding givenText
+  refused-text k h = rw judged (go (treeNumber g cells forbidden) h)
+    where
+      go : (j : ℕ) → grown.Refused k ≡ grownOf (unless j (countsOf q)) → line (bytes "refused" ∷ decimal k ∷ []) ≡ judgedText j (treeOf q)
+      go zero h = let z : _≡_ {A = ℕ} 0 1 = cc in absurd (omega arith)
+      go (suc j) h = let e : k ≡ suc j = cc in rw e
+
+  no-seeds : seedRecords q ≡ []
+  unfolding seedRecords seeded stored
+  no-seeds = refl
+
+  -- counts are those of the tree, which is not refused
+  record Free (counts : Counted) : Type 0 where
+    free : treeNumber g cells forbidden ≡ 0
+    counts-are : counts ≡ record { nodes = nodeCount (treeOf q); records = length (recordsOf q); cuts = length (sheet (treeOf q)) }
+
+  counted : (counts : Counted) → grown.Counted counts ≡ grownOf (unless (treeNumber g cells forbidden) (countsOf q)) → Free counts
+  counted counts h = go (treeNumber g cells forbidden) refl h
+    where
+      go : (j : ℕ) → treeNumber g cells forbidden ≡ j → grown.Counted counts ≡ grownOf (unless j (countsOf q)) → Free counts
+      go zero e h = record { free = e; counts-are = cc }
+      go (suc j) e h = let z : _≡_ {A = ℕ} 0 1 = cc in absurd (omega arith)
+
+  module _ (free : treeNumber g cells forbidden ≡ 0) where
+    record Clean : Type 0 where
+      rows : 1 ≤ g .n
+      least : 1 ≤ g .m
+      nodes : mostNodes (g .n) (g .m) ≤ 509
+
+    clean : Clean
+    unfolding treeNumber treeRefusal layersTotal
+    clean =
+        let p = passed (treeTests (cellsHeld g cells) (g .n) (g .d) (g .m) (ofBits binary64 (g .threshold)) (pairsHeld g forbidden) [] lent) tt free in
+        record {
+          rows = matrix 4096 (cellsHeld g cells) (g .n) (g .d) (p .0) .rows .0;
+          least = inside 4096 (g .m) (p .1 .0) .0;
+          nodes = let h = ltb-false 509 (0 + mostNodes (g .n) (g .m)) (p .1 .1 .1 .1 .1 .1 .1 .0) in omega arith;
+        }
+
+    few-records : length (recordsOf q) ≤ 509
+    unfolding layersTotal
+    few-records =
+        let w = clean in
+        let h : length (recordsOf q) ≤ 0 + mostNodes (g .n) (g .m) = records-fit (cellsHeld g cells) (g .n) (g .d) (g .m) (ofBits binary64 (g .threshold)) (pairsHeld g forbidden) [] (w .least) (w .rows) in
+        omega (arith, w .nodes)
+
+    few-cuts : length (sheet (treeOf q)) ≤ 254
+    few-cuts = let w = clean in omega (arith, demand q (w .least) (w .rows) .few-cuts, w .nodes)
+
+    sheet-text : sheetOf (nodeCount (treeOf q)) (recordsOf q) (sheet (treeOf q)) ≡ givenText g cells forbidden
+    unfolding givenText sheetText
+    sheet-text = let w = clean in rw (judged, free, lines-are q (w .least) (w .rows) no-seeds, sheet-long (treeOf q))
+
+  -- there is room for the sheet, and it is the deck's text
+  pub record Sheeted (rows′ : List ℕ) (gains′ : List Float) (cuts′ : List ℕ) (counts : Counted) : Type 0 where
+    pub few-cuts : counts .cuts ≤ 254
+    pub few-records : counts .records ≤ 509
+    pub text : sheetOf (counts .nodes) (recordsIn rows′ gains′ (counts .records)) (take (counts .cuts) cuts′) ≡ givenText g cells forbidden
+
+  pub sheeted : (rows : List ℕ) (gains : List Float) (cuts rows′ : List ℕ) (gains′ : List Float) (cuts′ : List ℕ) (counts : Counted)
+      → Grew g cells forbidden rows gains cuts rows′ gains′ cuts′ (grown.Counted counts)
+      → Sheeted rows′ gains′ cuts′ counts
+  sheeted rows gains cuts rows′ gains′ cuts′ counts h =
+      let f = counted counts (h .answer-is) in
+      let rs = recordsOf q in
+      let xs = sheet (treeOf q) in
+      let a : rows′ ≡ holding (flatRows rs) rows = rw (f .free) at (h .rows-are) in
+      let b : gains′ ≡ holding (gainsOf rs) gains = rw (f .free) at (h .gains-are) in
+      let d : cuts′ ≡ holding xs cuts = rw (f .free) at (h .cuts-are) in
+      rw (f .counts-are)
+      (record {
+        few-cuts = few-cuts (f .free);
+        few-records = few-records (f .free);
+        text = rw (a, b, d, records-told rs _ _, take-at xs _ (length xs) refl) (sheet-text (f .free));
+      })

@@ -1,0 +1,7 @@
+-- The laws that belong to no one function.
+pub mod Lookup
+pub mod Looked
+pub mod Limits
+pub mod Grown
+pub mod Said
+pub mod Lots

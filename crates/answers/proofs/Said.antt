@@ -1,0 +1,90 @@
+-- What is written for a reading is the program's text for whichever input was read so. Assumes nothing.
+use mathlib.Core.Path.{_≡_, refl, sym, _∙_, ap, ap₂}
+use mathlib.Core.Logic.{⊎-elim}
+use mathlib.Core.List.{List, [], map}
+use Prim.Native.Nat.{ℕ, zero, suc, _*_, _≤_}
+use native.Mathlib.Omega.{arith}
+use lib.IntN.{ℤ}
+use lib.Ieee.{Float, ofInt, ofBits, binary64}
+use lib.ListN.{length, take, drop, length-map}
+use lib.Seq.{take-all, take-at}
+use Rattle.scope.specs.Lists.{holding}
+use Rattle.scope.specs.Tree.{treeOf}
+use Rattle.scope.specs.Calls.{runOf, treeRefusal}
+use Rattle.scope.specs.Program.{Reading, Deck, deckRefusal, judgedText, deckTree, deckText, readingText, readInput, program}
+use Rattle.report.specs.Written.{Written}
+use Rattle.report.proofs.Texts.{written-length, written-whole}
+use Rattle.line.specs.declared.Given.{Given}
+use Rattle.deck.specs.declared.Read.{Read}
+use Rattle.deck.specs.Meaning.{Told}
+use Rattle.deck.specs.Limits.{givenRefusal}
+use Rattle.deck.proofs.Refused.{held, refusal-right}
+use Rattle.answers.specs.Answered.{cellsHeld, pairsHeld, runHeld, lent, treeNumber, orElse, givenText, readText, Said}
+use Rattle.answers.proofs.Limits.{DeckClean, deck-clean, tree-clean}
+
+held-cells : (zs : List ℤ) (cells₀ cells : List Float) (k : ℕ) → cells ≡ holding (take 2048 (map (ofInt binary64) zs)) cells₀ → length zs ≡ k → k ≤ 2048 → take k cells ≡ map (ofInt binary64) zs
+held-cells zs cells₀ cells k h l s =
+    let vs = map (ofInt binary64) zs in
+    let long : length vs ≡ k = length-map zs (ofInt binary64) ∙ l in
+    rw (h, take-all 2048 vs (omega arith)) (take-at vs (drop (length vs) cells₀) k long)
+
+module _ (cells₀ : List Float) (forbidden₀ : List ℕ) (room : 128 ≤ length forbidden₀) (g : Given) (cells : List Float) (forbidden : List ℕ) (r : Reading)
+    (told : Told cells₀ forbidden₀ g cells forbidden r) where
+  abbrev deck : Deck
+  deck = told .deck
+
+  number-same : givenRefusal g forbidden ≡ deckRefusal deck
+  number-same = refusal-right g forbidden (givenRefusal g forbidden) refl .1 cells₀ forbidden₀ cells r room told
+
+  module _ (clean : DeckClean deck) where
+    cells-same : cellsHeld g cells ≡ map (ofInt binary64) (deck .cells)
+    cells-same =
+        let size : g .n * g .d ≡ deck .n * deck .d = ap₂ _*_ (told .n-is) (told .d-is) in
+        held-cells (deck .cells) cells₀ cells (g .n * g .d) (told .kept .cells-held) (omega (arith, clean .sizes .filled)) (omega (arith, clean .sizes .size))
+
+    pairs-same : pairsHeld g forbidden ≡ deck .forbidden
+    pairs-same = held cells₀ forbidden₀ g cells forbidden r room told (omega (arith, told .kept .flat, clean .few))
+
+    -- what is said of the values held is said of the deck's
+    module _ {A : Type 0} (f : List Float → ℕ → ℕ → ℕ → ℕ → List ℕ → A) where
+      same-deck : f (cellsHeld g cells) (g .n) (g .d) (g .m) (g .threshold) (pairsHeld g forbidden) ≡ f (map (ofInt binary64) (deck .cells)) (deck .n) (deck .d) (deck .m) (deck .threshold) (deck .forbidden)
+      same-deck = let a = cells-same in let b = pairs-same in let n = told .n-is in let d = told .d-is in let m = told .m-is in let t = told .threshold-is in cc
+
+    tree-free : treeNumber g cells forbidden ≡ 0
+    unfolding treeNumber
+    tree-free = same-deck (λ cs n d m t ps. treeRefusal cs n d m (ofBits binary64 t) ps [] lent) ∙ tree-clean deck clean
+
+    tree-same : treeOf (runHeld g cells forbidden) ≡ deckTree deck
+    tree-same = same-deck (λ cs n d m t ps. treeOf (runOf cs n d m (ofBits binary64 t) ps []))
+
+  text-same : givenText g cells forbidden ≡ deckText deck
+  unfolding givenText
+  text-same = go (deckRefusal deck) refl
+    where
+      go : (k : ℕ) → deckRefusal deck ≡ k → judgedText (orElse (givenRefusal g forbidden) (treeNumber g cells forbidden)) (treeOf (runHeld g cells forbidden)) ≡ judgedText (deckRefusal deck) (deckTree deck)
+      go zero e = let clean = deck-clean deck e in rw (number-same, e, tree-free clean, tree-same clean)
+      go (suc k) e = rw (number-same, e)
+
+  deck-said : readingText r ≡ deckText deck
+  deck-said = ⊎-elim (λ e. ap readingText e) (λ e. ap readingText e) (told .is-read)
+
+-- THE LAW
+pub read-said : (read : Read) (cells : List Float) (forbidden : List ℕ) → Said read cells forbidden (readText read cells forbidden)
+unfolding program
+read-said (Read.Bad k) cells forbidden input cells₀ forbidden₀ room room₂ says = sym (ap readingText says)
+read-said (Read.Deck g) cells forbidden input cells₀ forbidden₀ room room₂ told =
+    text-same cells₀ forbidden₀ room₂ g cells forbidden (readInput input) told ∙ sym (deck-said cells₀ forbidden₀ room₂ g cells forbidden (readInput input) told)
+
+-- of what stands at the start of a slice
+pub written-said : (read : Read) (cells : List Float) (forbidden out out′ : List ℕ) (r : ℕ) → Written out 0 (readText read cells forbidden) out′ r → r ≤ length out
+    → Written out 0 (readText read cells forbidden) out′ r × (Said read cells forbidden (take r out′) × (r ≤ length out′))
+written-said read cells forbidden out out′ r w h = (
+  w,
+  (
+    λ input cells₀ forbidden₀ room room₂ says.
+        let text = readText read cells forbidden in
+        let long : length text ≡ r = omega (arith, w .end-is) in
+        ap (take r) (written-whole w (omega arith)) ∙ take-at text (drop (length text) out) r long ∙ read-said read cells forbidden input cells₀ forbidden₀ room room₂ says,
+    omega (arith, written-length w),
+  ),
+)

@@ -1,0 +1,45 @@
+-- `grow` meets its contract: the tree of what is held of the deck, in the room that the types give.
+use mathlib.Core.Path.{sym}
+use native.Mathlib.Omega.{arith}
+use denote.Ref.{now}
+use lib.Seq.{length-take-le}
+use Rattle.answers.proofs.Limits.{GivenClean, given-clean}
+use Rattle.answers.proofs.Grown.{room-is, grew}
+use borrow.Author.Needs.{needs}
+use Rattle.answers.proofs.grow.Statement.{statement}
+use Rattle.answers.proofs.grow.Tie as tie
+
+-- a deck that is not refused
+facts : (c : tie.Start) → GivenClean (c .args .deck)
+facts c = given-clean (c .args .deck) (now (c .args .forbidden)) (c .pre .2)
+
+mul-len : tie.Need-mul-len
+mul-len c = let f = facts (c .before .before .before) in omega (arith, f .sizes .size)
+
+mul-end : tie.Need-mul-end
+mul-end c = let f = facts (c .before .before .before .before) in omega (arith, f .pairs)
+
+slice-aggregate-split-points : tie.Need-slice-aggregate-split-points
+slice-aggregate-split-points c = let f = facts (c .before .before .before .before .before .before) in sym (length-take-le _ _ (omega (arith, f .sizes .size)))
+
+slice-aggregate-split-points-2 : tie.Need-slice-aggregate-split-points-2
+slice-aggregate-split-points-2 c = let f = facts (c .before .before .before .before .before .before .before) in sym (length-take-le _ _ (omega (arith, f .pairs)))
+
+returns : tie.Need-returns
+returns c =
+    let s = c .before .before .before .before .before .before .before .before .before .before .before .before .before .args in
+    let tree = c .split-points .ensures in
+    grew (s .deck) (now (s .cells)) (now (s .forbidden)) _ (now (s .sums)) (now (s .rows)) (now (s .gains)) (now (s .cuts)) _ _ _ _ (c .before .before .before .before .before .before .before .before .threshold .ensures) (room-is (now (s .sums)) (now (s .rows)) (now (s .gains)) (now (s .cuts)) (omega arith) (omega arith) (omega arith) (omega arith)) (tree .0) (tree .1 .1 .0) (tree .1 .1 .1 .0) (tree .1 .1 .1 .1)
+
+pub grow-spec : {M : Type 1} → statement M
+grow-spec =
+    tie.close
+    (tie.spec
+    mul-len
+    mul-end
+    (λ c κs. search needs)
+    slice-aggregate-split-points
+    slice-aggregate-split-points-2
+    (λ c. search needs)
+    (λ c κs. search needs)
+    returns)

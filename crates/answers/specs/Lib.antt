@@ -1,0 +1,3 @@
+-- The definitions that the contracts of `answers` cite.
+pub mod Lines
+pub mod Answered

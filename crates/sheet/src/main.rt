@@ -1,0 +1,57 @@
+// The program: reads a deck from standard input; writes its sheet, its refusal, or the number of its first malformed line to standard output.
+// It only reads, calls and writes. No contract can name what is read or written: `run` says that its text is the program's (crates/scope/specs/Program.antt) for
+// some bytes, which are the lots that `reading` fed, one after another; answers/proofs/Lots.antt has the same of any lots. Nor can a program set its exit
+// status: where it can't read or write it says so on standard error, and it writes no other sheet.
+mod reading;
+
+use answers::BARRED;
+use answers::CUTS;
+use answers::RECORDS;
+use answers::ROWS;
+use answers::SUMS;
+use answers::TEXT;
+use libc::STDERR_FILENO;
+use libc::STDOUT_FILENO;
+use line::MOST_CELLS;
+use reading::Input;
+ghost use Prim.Native.Nat.{_≤_};
+ghost use lib.ListN.{length, take};
+ghost use Rattle.sheet.specs.Taken.{Told};
+
+// The text for the input, and how many bytes it has: none where the input could not be read.
+fn run(out: &mut [u8; TEXT]) -> usize
+    ensures told { λ r. ⌜ Told (take r (now (out .exit))) ⌝ }
+    ensures most { λ r. ⌜ r ≤ length (now (out .exit)) ⌝ }
+{
+    let mut cells = [0.0; MOST_CELLS];
+    let mut forbidden = [0usize; BARRED];
+    let Input::Read(read) = reading::read_all(&mut cells, &mut forbidden) else {
+        return 0;
+    };
+    let mut sums = [0.0; SUMS];
+    let mut rows = [0usize; ROWS];
+    let mut gains = [0.0; RECORDS];
+    let mut cuts = [0usize; CUTS];
+    answers::answer(
+        read,
+        &cells,
+        &forbidden,
+        &mut sums,
+        &mut rows,
+        &mut gains,
+        &mut cuts,
+        out,
+    )
+}
+
+fn main() {
+    let mut out = [0u8; TEXT];
+    let n = run(&mut out);
+    if n == 0 {
+        io::write_all(STDERR_FILENO, b"sheet: the input could not be read\n");
+        return;
+    }
+    if !io::write_all(STDOUT_FILENO, &out[..n]) {
+        io::write_all(STDERR_FILENO, b"sheet: the output could not be written\n");
+    }
+}
