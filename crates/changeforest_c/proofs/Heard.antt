@@ -1,19 +1,21 @@
 -- What an enum's case tells of the definition's answer: a value was given, or the number. Assumes nothing.
-use mathlib.Core.Path.{_≡_, refl, sym, ap}
+use mathlib.Core.Path.{_≡_, ap}
 use Prim.Native.Nat.{ℕ}
 use native.Mathlib.Omega.{arith}
 use lib.Ieee.{Float}
 use Rattle.scope.specs.Refusals.{Answer, refused, given}
-use Rattle.scope.specs.Calls.{Split}
+use Rattle.scope.specs.Calls.{Split, Tested}
 use Rattle.rows.specs.declared.Position.{Position}
 use Rattle.optimizer.specs.Records.{bestSplitOf}
 use Rattle.optimizer.specs.declared.optimizer_result.BestSplit.the-variants as best
-use Rattle.changeforest.specs.Answers.{lengthOf, countOf, gainedOf}
+use Rattle.changeforest.specs.Answers.{lengthOf, countOf, gainedOf, permutedOf}
+use Rattle.changeforest.specs.declared.curves.TestResult.{TestResult}
+use Rattle.changeforest.specs.declared.curves.Permuted.the-variants as permuted
 use Rattle.changeforest.specs.declared.lengths.Length.the-variants as «length»
 use Rattle.changeforest.specs.declared.mean.Count.the-variants as count
 use Rattle.changeforest.specs.declared.mean.Gained.the-variants as gained
 
-never : {X : Type 0} → _≡_ {A = ℕ} 0 1 → X
+pub never : {X : Type 0} → _≡_ {A = ℕ} 0 1 → X
 never z = absurd (omega arith)
 
 pub length-given : (a : Answer ℕ) (m : ℕ) → «length».Rows m ≡ lengthOf a → a ≡ given m
@@ -50,3 +52,17 @@ best-given (given s) p g e =
 pub best-refused : (a : Answer Split) (k : ℕ) → best.Refused k ≡ bestSplitOf a → a ≡ refused k
 best-refused (refused j) k e = let w : j ≡ k = cc in ap refused w
 best-refused (given s) k e = never (cc)
+
+-- the test's parts
+abbrev pub testedIn : TestResult → Tested
+testedIn t = record { counted = t .counter; p = t .«p_value»; significant = t .«is_significant» }
+
+pub permuted-given : (a : Answer Tested) (t : TestResult) → permuted.Tested t ≡ permutedOf a → a ≡ given (testedIn t)
+permuted-given (refused k) t e = never (cc)
+permuted-given (given s) t e =
+    let w : _≡_ {A = TestResult} (record { counter = s .counted; «p_value» = s .p; «is_significant» = s .significant }) t = cc in
+    ap (λ (z : TestResult). given (testedIn z)) w
+
+pub permuted-refused : (a : Answer Tested) (k : ℕ) → permuted.Refused k ≡ permutedOf a → a ≡ refused k
+permuted-refused (refused j) k e = let w : j ≡ k = cc in ap refused w
+permuted-refused (given s) k e = never (cc)

@@ -1,2 +1,3 @@
--- What an enum's case tells of the definition's answer.
+-- What an enum's case tells of the definition's answer, and that guesses are at most three.
+pub mod Guessed
 pub mod Heard

@@ -6,6 +6,7 @@ ghost use Rattle.scope.specs.Grid.{blank, better};
 ghost use Rattle.optimizer.specs.Records.{toRecord, tried, guessed};
 
 // The best split of [start, stop) and its gain.
+#[repr(C)]
 pub struct GainRecord {
     pub start: Position,
     pub stop: Position,

@@ -4,6 +4,7 @@ ghost use mathlib.Core.Path.{_≡_};
 ghost use Prim.Native.Nat.{_+_, _-_, _<_, _≤_, _^_};
 
 // A row's position in the run.
+#[repr(C)]
 pub struct Position(pub usize);
 
 // A row's offset in a segment.

@@ -1,5 +1,5 @@
 -- `changeforest_minimal_segment_length` meets its contract: the enum's case, told as a number and a stored length.
-use mathlib.Core.Path.{_≡_, sym, _∙_}
+use mathlib.Core.Path.{sym, _∙_}
 use Prim.Native.Nat.{ℕ}
 use Rattle.scope.specs.Refusals.{Answer}
 use Rattle.scope.specs.Calls.{lengthAnswer}

@@ -1,5 +1,5 @@
 -- `changeforest_find_best_split` meets its contract: the enum's case, told as a number, a stored split and its gain.
-use mathlib.Core.Path.{_≡_, sym, _∙_}
+use mathlib.Core.Path.{sym, _∙_}
 use denote.Ref.{now}
 use lib.ListN.{length}
 use Rattle.scope.specs.Refusals.{Answer}

@@ -1,5 +1,5 @@
 -- `changeforest_gain` meets its contract: the enum's case, told as a number and a stored gain.
-use mathlib.Core.Path.{_≡_, sym, _∙_}
+use mathlib.Core.Path.{sym, _∙_}
 use denote.Ref.{now}
 use lib.Ieee.{Float}
 use lib.ListN.{length}

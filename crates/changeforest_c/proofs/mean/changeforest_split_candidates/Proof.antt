@@ -1,5 +1,5 @@
 -- `changeforest_split_candidates` meets its contract: the enum's case, told as a number and a stored count.
-use mathlib.Core.Path.{_≡_, sym, _∙_}
+use mathlib.Core.Path.{sym, _∙_}
 use denote.Ref.{now}
 use Prim.Native.Nat.{ℕ}
 use lib.ListN.{length}

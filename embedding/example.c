@@ -1,0 +1,50 @@
+/* Twelve rows of two readings: the sheet of the rows where they shift. */
+#include <stdio.h>
+
+#include "changeforest.h"
+
+/* Room for the nodes: the greater of 1 and 2*floor((ROWS-1)/SHORTEST)-1. A layer of 0.5 has three segments. */
+enum { ROWS = 12, COLUMNS = 2, SHORTEST = 2, NODES = 2 * ((ROWS - 1) / SHORTEST) - 1, SEGMENTS = 3, RECORDS = SEGMENTS + NODES };
+
+/* The library's nodes are laid out as this compiler lays them out. */
+_Static_assert(sizeof(struct changeforest_node) == 72, "size");
+_Static_assert(offsetof(struct changeforest_node, significant) == 16, "significant");
+_Static_assert(offsetof(struct changeforest_node, has_choice) == 17, "has_choice");
+_Static_assert(offsetof(struct changeforest_node, choice) == 24, "choice");
+_Static_assert(offsetof(struct changeforest_node, choice.gain) == 48, "choice.gain");
+_Static_assert(offsetof(struct changeforest_node, left) == 56, "left");
+
+static const double cells[ROWS * COLUMNS] = {
+    3, 10, 4, 10, 3, 11, 4, 10, 3, 10, 9, 10, 8, 10, 9, 11, 8, 10, 9, 15, 8, 15, 9, 14,
+};
+
+/* Row 3 is no place to cut: 2 < x <= 3. */
+static const size_t forbidden[] = {2, 3};
+static const double layers[] = {0.5};
+
+static double sums[(ROWS + 1) * COLUMNS], gains[RECORDS];
+static size_t rows[3 * RECORDS], cuts[(NODES - 1) / 2], counts[3];
+static struct changeforest_node nodes[NODES];
+
+int main(void)
+{
+    uint32_t no = changeforest_tree(cells, ROWS * COLUMNS, ROWS, COLUMNS, SHORTEST, 10.0, forbidden, 2, layers, 1, sums,
+                                    (ROWS + 1) * COLUMNS, rows, 3 * RECORDS, gains, RECORDS, nodes, NODES, cuts, (NODES - 1) / 2,
+                                    counts, 3);
+    if (no != 0) {
+        printf("refused %u\n", (unsigned)no);
+        return 1;
+    }
+    printf("%zu nodes, %zu records, %zu cuts\n", counts[0], counts[1], counts[2]);
+    for (size_t i = 0; i < counts[2]; i++)
+        printf("cut at row %zu\n", cuts[i]);
+    for (size_t i = 0; i < counts[0]; i++) {
+        const struct changeforest_node *node = &nodes[i];
+        printf("[%zu, %zu)", node->start, node->stop);
+        if (node->significant)
+            printf(" cut: gain %.6f in [%zu, %zu), parts %zu and %zu", node->choice.gain, node->choice.start, node->choice.stop, node->left,
+                   node->right);
+        putchar('\n');
+    }
+    return 0;
+}

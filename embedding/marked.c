@@ -1,0 +1,261 @@
+/* The marked cases of document 01 and each refusal, through the C functions: one line for each call, held to marked.stdout. Every array
+   that is written is lent three entries longer than its room; `touched` is printed where more was written than was told. */
+#include <inttypes.h>
+#include <stdio.h>
+#include <string.h>
+
+#include "changeforest.h"
+
+#define LEN(a) (sizeof(a) / sizeof((a)[0]))
+
+enum { ROOM = 64, SPARE = 3 };
+static const size_t none[1];
+static const double layerless[1];
+
+static uint64_t bits(double x)
+{
+    uint64_t b;
+    memcpy(&b, &x, sizeof b);
+    return b;
+}
+
+static void end(uint32_t no)
+{
+    if (no != 0)
+        printf(" refused %" PRIu32, no);
+    putchar('\n');
+}
+
+/* The entries of a lent array that were told, and whether the rest is as it was. */
+static void rows_told(const size_t *rows, size_t told)
+{
+    for (size_t i = 0; i < told; i++)
+        printf(" %zu", rows[i]);
+    for (size_t i = told; i < ROOM; i++)
+        if (rows[i] != 77)
+            printf(" touched");
+}
+
+static void floats_told(const double *values, size_t told)
+{
+    for (size_t i = 0; i < told; i++)
+        printf(" %016" PRIx64, bits(values[i]));
+    for (size_t i = told; i < ROOM; i++)
+        if (values[i] != 7.5)
+            printf(" touched");
+}
+
+static void fill_rows(size_t *rows)
+{
+    for (size_t i = 0; i < ROOM; i++)
+        rows[i] = 77;
+}
+
+static void fill_floats(double *values)
+{
+    for (size_t i = 0; i < ROOM; i++)
+        values[i] = 7.5;
+}
+
+static void candidates(const char *name, size_t n, size_t m, const size_t *forbidden, size_t forbidden_len, size_t stop, size_t room)
+{
+    size_t rows[ROOM], count = 0;
+    fill_rows(rows);
+    uint32_t no = changeforest_split_candidates(n, m, forbidden, forbidden_len, 0, stop, rows, room, &count);
+    printf("%s", name);
+    rows_told(rows, count);
+    end(no);
+}
+
+static void gain(const char *name, const double *cells, size_t n, size_t start, size_t stop, size_t split)
+{
+    double sums[ROOM], found = 7.5;
+    fill_floats(sums);
+    uint32_t no = changeforest_gain(cells, n, n, 1, start, stop, split, sums, n + 1 + SPARE, &found);
+    printf("%s %016" PRIx64 " sums", name, bits(found));
+    floats_told(sums, no == 0 ? n + 1 : 0);
+    end(no);
+}
+
+static void search(const char *name, const double *cells, size_t n, size_t m, size_t stop)
+{
+    double sums[ROOM], found = 7.5;
+    size_t split = 77;
+    fill_floats(sums);
+    uint32_t no = changeforest_find_best_split(cells, n, n, 1, m, none, 0, 0, stop, sums, n + 1 + SPARE, &split, &found);
+    printf("%s %zu %016" PRIx64, name, split, bits(found));
+    end(no);
+}
+
+static void segments(const char *name, size_t n, const double *layers, size_t layers_len)
+{
+    double cells[20] = {0}, sums[ROOM], gains[ROOM];
+    size_t rows[ROOM], count = 0;
+    fill_floats(sums);
+    fill_floats(gains);
+    fill_rows(rows);
+    uint32_t no = changeforest_seeded_segments(cells, n, n, 1, 1, none, 0, layers, layers_len, sums, n + 1 + SPARE, rows, 30, gains, 10,
+                                               &count);
+    printf("%s %zu:", name, count);
+    rows_told(rows, 3 * count);
+    floats_told(gains, count);
+    end(no);
+}
+
+/* B = 19 for the longest run here, T = 7 at most. */
+static void tree(const char *name, const double *cells, size_t n, double threshold, const double *layers, size_t layers_len, size_t room)
+{
+    double sums[ROOM], gains[ROOM];
+    size_t rows[2 * ROOM], cuts[ROOM], counts[4] = {77, 77, 77, 77};
+    struct changeforest_node nodes[ROOM] = {{0}};
+    fill_floats(sums);
+    fill_floats(gains);
+    fill_rows(rows);
+    fill_rows(rows + ROOM);
+    fill_rows(cuts);
+    uint32_t no = changeforest_tree(cells, n, n, 1, 1, threshold, none, 0, layers, layers_len, sums, n + 1 + SPARE, rows, 2 * ROOM, gains,
+                                    ROOM, nodes, room, cuts, ROOM, counts, 3);
+    size_t told = no == 0 ? counts[0] : 0;
+    printf("%s %zu %zu %zu %zu nodes", name, counts[0], counts[1], counts[2], counts[3]);
+    for (size_t i = 0; i < told; i++) {
+        const struct changeforest_node *x = &nodes[i];
+        printf(" %zu,%zu,%d:", x->start, x->stop, x->significant);
+        if (x->has_choice)
+            printf("%zu,%016" PRIx64 ",%zu,%zu", x->choice.split, bits(x->choice.gain), x->choice.start, x->choice.stop);
+        else
+            putchar('-');
+        printf(":%zu,%zu", x->left, x->right);
+    }
+    for (size_t i = told; i < ROOM; i++)
+        if (nodes[i].stop != 0)
+            printf(" touched");
+    printf(" cuts");
+    rows_told(cuts, no == 0 ? counts[2] : 0);
+    printf(" gains");
+    floats_told(gains, no == 0 ? counts[1] : 0);
+    end(no);
+}
+
+static void predict(const char *name, const double *cells, size_t n, size_t stop, size_t split)
+{
+    uint32_t ordering[ROOM] = {0};
+    double distances[ROOM], predictions[ROOM];
+    fill_floats(distances);
+    fill_floats(predictions);
+    uint32_t no = changeforest_predict(cells, n, n, 1, 0, stop, split, ordering, n * n, distances, n + SPARE, predictions,
+                                       stop + SPARE);
+    printf("%s", name);
+    floats_told(predictions, no == 0 ? stop : 0);
+    end(no);
+}
+
+static void order(const char *name, const double *cells, size_t n, size_t room)
+{
+    uint32_t ordering[ROOM] = {0};
+    double distances[ROOM];
+    fill_floats(distances);
+    uint32_t no = changeforest_ordering(cells, n, n, 1, ordering, room, distances, n);
+    printf("%s", name);
+    for (size_t i = 0; no == 0 && i < n * n; i++)
+        printf(" %" PRIu32, ordering[i]);
+    floats_told(distances, no == 0 ? n : 0);
+    end(no);
+}
+
+static void curve(const char *name, const double *l0, size_t l0_len, const double *l1, size_t l1_len)
+{
+    double found[ROOM];
+    fill_floats(found);
+    uint32_t no = changeforest_gain_from_likelihoods(l0, l0_len, l1, l1_len, found, l0_len + SPARE);
+    printf("%s", name);
+    floats_told(found, no == 0 ? l0_len : 0);
+    end(no);
+}
+
+static void pick(const char *name, const double *values, size_t len, size_t guess)
+{
+    size_t split = 77;
+    double found = 7.5;
+    uint32_t no = changeforest_pick(values, len, len, 1, none, 0, 0, len, guess, &split, &found);
+    printf("%s %zu %016" PRIx64, name, split, bits(found));
+    end(no);
+}
+
+static void guesses(const char *name, size_t m, bool given, const size_t *forbidden, size_t forbidden_len, size_t stop)
+{
+    size_t first = 77, second = 77, third = 77, count = 77;
+    uint32_t no = changeforest_guesses(20, m, given, forbidden, forbidden_len, 0, stop, &first, &second, &third, &count);
+    printf("%s %zu: %zu %zu %zu", name, count, first, second, third);
+    end(no);
+}
+
+static void test(const char *name, size_t k, const size_t *permutations, size_t len, double alpha)
+{
+    static const double deltas[3] = {1, 0, -1}, empty[1];
+    size_t counter = 77;
+    double p_value = 7.5;
+    bool significant = true;
+    uint32_t no = changeforest_permutation_test(deltas, 3, empty, 0, empty, 0, 0, 0, 0, k, permutations, len, 3, 1, alpha, 1, &counter,
+                                                &p_value, &significant);
+    printf("%s %zu %016" PRIx64 " %d", name, counter, bits(p_value), significant);
+    end(no);
+}
+
+static void length(const char *name, double relative, size_t n)
+{
+    size_t m = 77;
+    uint32_t no = changeforest_minimal_segment_length(relative, n, &m);
+    printf("%s %zu", name, m);
+    end(no);
+}
+
+int main(void)
+{
+    static const size_t m4[] = {3, 5}, m5[] = {0, 9}, odd[] = {3};
+    static const double m6[] = {0, 0, 8, 0, 0}, m9[] = {0, 1, 3, 7}, infinite[] = {0, 1e308 * 10, 0, 0};
+    static const size_t m10[] = {2, 1, 0, 0, 1, 2, 1, 0, 2}, twice[] = {2, 1, 1, 0, 1, 2, 1, 0, 2};
+    static const double m7[] = {0, 0, 0, 0, 8, 8, 8, 8}, m8[5];
+    static const double half[] = {0.5}, quarter[] = {0.25}, one[] = {1.0};
+    static const double l0[] = {3, 1, 0}, l1[] = {1, 1, 2}, values[] = {9, 1, 4, 4, 0};
+
+    candidates("M1", 10, 3, none, 0, 10, 4 + SPARE);
+    candidates("M2", 10, 5, none, 0, 10, 0);
+    candidates("M3", 9, 4, none, 0, 9, 1 + SPARE);
+    candidates("M4", 10, 3, m4, LEN(m4), 10, 4 + SPARE);
+    candidates("M5", 10, 3, m5, LEN(m5), 10, 4 + SPARE);
+    gain("M6 at 2", m6, LEN(m6), 0, 5, 2);
+    gain("M6 at 3", m6, LEN(m6), 0, 5, 3);
+    search("M6", m6, LEN(m6), 1, 5);
+    tree("M7", m7, LEN(m7), 10, layerless, 0, 13);
+    tree("M8", m8, LEN(m8), -1, layerless, 0, 7);
+    tree("M7 with a layer", m7, LEN(m7), 10, half, 1, 13);
+    predict("M9", m9, LEN(m9), 4, 2);
+    order("M9 ordering", m9, LEN(m9), 16);
+    test("M10", 1, m10, LEN(m10), 0.05);
+    segments("M11", 20, half, 1);
+    segments("M11 quarter", 20, quarter, 1);
+    length("relative", 0.07, 100);
+    curve("curve", l0, 3, l1, 3);
+    pick("pick", values, LEN(values), 3);
+    guesses("between", 1, false, odd, 1, 20);
+    guesses("listed", 1, true, none, 0, 20);
+    guesses("one", 2, true, none, 0, 5);
+    printf("f32 %016" PRIx64 "\n", bits(changeforest_nearest_f32(0.1)));
+
+    candidates("no rows", 0, 3, none, 0, 10, 4);
+    length("half", 0.5, 100);
+    test("alpha", 1, m10, LEN(m10), 1);
+    search("infinite", infinite, LEN(infinite), 1, 4);
+    candidates("odd list", 10, 3, odd, LEN(odd), 10, 4);
+    segments("layer of 1", 20, one, 1);
+    tree("NaN threshold", m8, LEN(m8), infinite[1] - infinite[1], layerless, 0, 7);
+    tree("short nodes", m8, LEN(m8), -1, layerless, 0, 6);
+    candidates("short", 10, 3, none, 0, 10, 3);
+    order("short ordering", m9, LEN(m9), 15);
+    gain("split past stop", m6, LEN(m6), 0, 3, 4);
+    test("no curve", 0, m10, LEN(m10), 0.05);
+    test("twice", 1, twice, LEN(twice), 0.05);
+    curve("lengths differ", l0, 3, l1, 2);
+    pick("no candidate", values, LEN(values), 0);
+    return 0;
+}

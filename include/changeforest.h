@@ -1,0 +1,151 @@
+/* changeforest.h: the proved segmentation core, for C and C++.
+
+   Each function answers 0, or the number of a refusal. A refusal has changed nothing: every array and every output is as it was. An
+   answer of 0 has stored the outputs; of an array that is written, the first entries are as told and the rest is unchanged. Only
+   changeforest_nearest_f32 answers its value.
+
+   What the caller guarantees. The proofs assume it and no function can test it:
+   - an array is passed as a pointer and its length in entries: the pointer is not null (not even where the length is 0), is aligned
+     for its type, and that many entries lie behind it;
+   - the entries of an array, and what an output points to, are initialised; a bool is 0 or 1;
+   - an array that is written overlaps no other array or output of the call, and an output no other output. Arrays that are only read
+     may overlap;
+   - the stack has room: 16 KiB, and for changeforest_tree 1 KiB more for each level of the tree, of which there are at most
+     floor((n-1)/m)+1. So 5 MiB are always enough, and a thread may have less.
+   Every other value of the arguments is allowed, and is answered or refused.
+
+   A call allocates nothing, keeps no pointer, and has no state: calls on memory of their own may run at the same time.
+
+   Sizes: n 1 to 4,096 rows (1,024 for ordering and predict), d 1 to 64 columns, m 1 to 4,096. A matrix is n*d cells, row after row.
+   forbidden is a list of pairs a, b: the rows a < x <= b are barred. A segment [start, stop) has the rows from start to stop-1.
+
+   Refusals; of those that apply to a call the lowest number is given:
+    1  n or d outside its size, or cells_len not n*d
+    2  m outside its size, or a relative length not strictly between 0 and 0.5
+    3  a threshold that is NaN, or alpha not strictly between 0 and 1
+    4  an infinite or NaN cell, likelihood, delta, base or observed maximum
+    5  forbidden_len odd, or a pair with a > b
+    6  more than 64 layers, or a layer value not in [1/4096, 1)
+    7  an array that is written is shorter than its room
+    8  start > stop or stop > n; a split below start or above stop; for predict also start = stop
+    9  2*m >= stop-start; for permutations 2*m >= L
+   10  every row of the candidate range is barred
+   11  no list of p permutations of 0..L-1, or p above 999
+   12  curves: their number, their lengths, or a guess that is no candidate */
+
+#ifndef CHANGEFOREST_H
+#define CHANGEFOREST_H
+
+#include <stdbool.h>
+#include <stddef.h>
+#include <stdint.h>
+
+#ifdef __cplusplus
+extern "C" {
+#endif
+
+/* The ceiling of the f64 product relative*n, into m. Refusals: 1 (n alone), 2. */
+uint32_t changeforest_minimal_segment_length(double relative, size_t n, size_t *m);
+
+/* The float nearest to x, ties to even: an overflow is infinite, a NaN stays NaN, -0 stays -0. Refuses nothing. */
+float changeforest_nearest_f32(double x);
+
+/* The candidates of [start, stop), ascending, into rows, and how many, into count: start+m <= x < stop-m, except barred rows.
+   Room: rows stop-start-2*m, or 0 where that is negative. Refusals: 1 (n alone), 2, 5, 7, 8, 9, 10. */
+uint32_t changeforest_split_candidates(size_t n, size_t m, const size_t *forbidden, size_t forbidden_len, size_t start, size_t stop,
+                                       size_t *rows, size_t rows_len, size_t *count);
+
+/* The gain of cutting [start, stop) at split, into gain; 0 where split is start or stop. sums takes the matrix's prefix sums.
+   Room: sums (n+1)*d. Refusals: 1, 4, 7, 8. */
+uint32_t changeforest_gain(const double *cells, size_t cells_len, size_t n, size_t d, size_t start, size_t stop, size_t split,
+                           double *sums, size_t sums_len, double *gain);
+
+/* The first of the candidates with the greatest gain, into split, and that gain, into gain; 0 and minus infinity where all are NaN.
+   sums takes the matrix's prefix sums. Room: sums (n+1)*d. Refusals: 1, 2, 4, 5, 7, 8, 9, 10. */
+uint32_t changeforest_find_best_split(const double *cells, size_t cells_len, size_t n, size_t d, size_t m, const size_t *forbidden,
+                                      size_t forbidden_len, size_t start, size_t stop, double *sums, size_t sums_len, size_t *split,
+                                      double *gain);
+
+/* The records of the seeded segments of all layers, and how many, into count: start, stop and best split of each into rows, three
+   entries a record, its gain into gains. A layer's value v gives 2*ceil(f32(1/v))-1 segments; one that a search would refuse leaves
+   no record. sums takes the matrix's prefix sums. Room: sums (n+1)*d; with T the layers' segments summed, rows 3*T and gains T.
+   Refusals: 1, 2, 4, 5, 6, 7. */
+uint32_t changeforest_seeded_segments(const double *cells, size_t cells_len, size_t n, size_t d, size_t m, const size_t *forbidden,
+                                      size_t forbidden_len, const double *layers, size_t layers_len, double *sums, size_t sums_len,
+                                      size_t *rows, size_t rows_len, double *gains, size_t gains_len, size_t *count);
+
+/* The best split of [start, stop) and its gain. */
+struct changeforest_record {
+    size_t start;
+    size_t stop;
+    size_t split;
+    double gain;
+};
+
+/* A segment of the tree: whether it is cut; its choice, where it has one (else all zero), which may carry the ends of a seeded segment
+   inside it; the places of its parts in the list of nodes (0 and 0 where it is not cut). */
+struct changeforest_node {
+    size_t start;
+    size_t stop;
+    bool significant;
+    bool has_choice;
+    struct changeforest_record choice;
+    size_t left;
+    size_t right;
+};
+
+/* The tree of the run: a segment is cut at its choice's split where the choice's gain exceeds threshold, and then both parts are grown.
+   The nodes in preorder into nodes, the rows that are cut from left to right into cuts; the records, those of the seeded segments first,
+   into rows and gains as by changeforest_seeded_segments. counts takes how many nodes, records and cuts there are; of three entries it
+   takes as many as it has. sums takes the matrix's prefix sums. Room: sums (n+1)*d; with T as there and B the greater of 1 and
+   2*floor((n-1)/m)-1, rows 3*(T+B), gains T+B, nodes B, cuts (B-1)/2; counts 3, which no refusal judges.
+   Refusals: 1, 2, 3 (threshold), 4, 5, 6, 7. */
+uint32_t changeforest_tree(const double *cells, size_t cells_len, size_t n, size_t d, size_t m, double threshold,
+                           const size_t *forbidden, size_t forbidden_len, const double *layers, size_t layers_len, double *sums,
+                           size_t sums_len, size_t *rows, size_t rows_len, double *gains, size_t gains_len,
+                           struct changeforest_node *nodes, size_t nodes_len, size_t *cuts, size_t cuts_len, size_t *counts,
+                           size_t counts_len);
+
+/* For each row all rows by squared distance from it, equal ones by lower index, into ordering, row after row; distances takes the
+   last row's. Room: ordering n*n, distances n. Refusals: 1, 4, 7. */
+uint32_t changeforest_ordering(const double *cells, size_t cells_len, size_t n, size_t d, uint32_t *ordering, size_t ordering_len,
+                               double *distances, size_t distances_len);
+
+/* For each row of [start, stop) the share of its k nearest neighbours there that stand at or past split, into predictions; k is the
+   whole square root of stop-start. ordering and distances are filled as by changeforest_ordering. Room: ordering n*n, distances n,
+   predictions stop-start, or 0 where start > stop. Refusals: 1, 4, 7, 8. */
+uint32_t changeforest_predict(const double *cells, size_t cells_len, size_t n, size_t d, size_t start, size_t stop, size_t split,
+                              uint32_t *ordering, size_t ordering_len, double *distances, size_t distances_len, double *predictions,
+                              size_t predictions_len);
+
+/* The gain curve of two rows of likelihoods, into curve. Room: curve l0_len. Refusals: 4, 7, 12 (l1_len not l0_len, or l0_len not 1
+   to 4,096). */
+uint32_t changeforest_gain_from_likelihoods(const double *l0, size_t l0_len, const double *l1, size_t l1_len, double *curve,
+                                            size_t curve_len);
+
+/* The first candidate of [start, stop) with the greatest value of curve, into split, and that value, into gain; guess and minus
+   infinity where none is greater than that. curve has an entry for each row of the segment and may hold infinities and NaN.
+   Refusals: 1 (n alone), 2, 5, 8, 9, 10, 12 (guess is no candidate, or curve_len not stop-start). */
+uint32_t changeforest_pick(const double *curve, size_t curve_len, size_t n, size_t m, const size_t *forbidden, size_t forbidden_len,
+                           size_t start, size_t stop, size_t guess, size_t *split, double *gain);
+
+/* One to three guesses for [start, stop), ascending, and how many, into count; of first, second and third those beyond the count are
+   unchanged. Where given is false forbidden is not looked at; an empty list that is given is not the same as none.
+   Refusals: 1 (n alone), 2, 5, 8, 9, 10. */
+uint32_t changeforest_guesses(size_t n, size_t m, bool given, const size_t *forbidden, size_t forbidden_len, size_t start, size_t stop,
+                              size_t *first, size_t *second, size_t *third, size_t *count);
+
+/* 1 and for each of p permutations with a sum that reaches maximum 1 more, into counter; counter/(p+1) into p_value; whether that is
+   at most alpha into significant. Of three curves of deltas and their bases the first k are looked at, 1 to 3, and L is the first
+   one's length (0 where k is 0). permutations has p*L entries, permutation after permutation.
+   Refusals: 2, 3 (alpha), 4, 9, 11, 12 (k not 1 to 3, or the k lengths not all the same from 1 to 4,096). */
+uint32_t changeforest_permutation_test(const double *deltas0, size_t deltas0_len, const double *deltas1, size_t deltas1_len,
+                                       const double *deltas2, size_t deltas2_len, double base0, double base1, double base2, size_t k,
+                                       const size_t *permutations, size_t permutations_len, size_t p, size_t m, double alpha,
+                                       double maximum, size_t *counter, double *p_value, bool *significant);
+
+#ifdef __cplusplus
+}
+#endif
+
+#endif

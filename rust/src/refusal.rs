@@ -1,0 +1,43 @@
+//! Why a call was refused.
+use std::{error, fmt, num::NonZeroU32};
+
+/// The number of a refusal, 1 to 12; the lowest that applies. What was lent to the call is as it was.
+#[derive(Clone, Copy, Debug, PartialEq, Eq, Hash)]
+pub struct Refusal(NonZeroU32);
+
+impl Refusal {
+    pub fn number(self) -> u32 {
+        self.0.get()
+    }
+}
+
+/// A call's number as a result: the value where it is 0.
+pub(crate) fn unless<T>(number: u32, value: T) -> Result<T, Refusal> {
+    match NonZeroU32::new(number) {
+        None => Ok(value),
+        Some(number) => Err(Refusal(number)),
+    }
+}
+
+impl fmt::Display for Refusal {
+    fn fmt(&self, f: &mut fmt::Formatter) -> fmt::Result {
+        let why = match self.number() {
+            1 => "n or d outside its size, or the matrix is not n*d",
+            2 => "m outside its size, or a relative length not strictly between 0 and 0.5",
+            3 => "the threshold is NaN, or alpha not strictly between 0 and 1",
+            4 => "an infinite or NaN value",
+            5 => "the forbidden list is odd, or a pair has a > b",
+            6 => "more than 64 layers, or a layer value not in [1/4096, 1)",
+            7 => "a lent slice is too short",
+            8 => "no segment of the run, or a split outside it",
+            9 => "the segment has no candidate range",
+            10 => "every candidate is forbidden",
+            11 => "no list of permutations",
+            12 => "the curves' number or lengths, or a guess that is no candidate",
+            _ => "no number of document 01",
+        };
+        write!(f, "refusal {}: {}", self.0, why)
+    }
+}
+
+impl error::Error for Refusal {}
