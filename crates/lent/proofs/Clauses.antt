@@ -13,7 +13,6 @@ use ghost.Atoms.{Atoms, sem}
 use contract.Monad.{fact, factI, fact-use, fact-mono, top, Mono}
 use types.Kit.{Given, mean}
 use sound.WpLaws.{FmC, fm→monoC}
-use Rattle.lent.proofs.Data.{Datum}
 use Rattle.lent.proofs.Held.{Kind, Deal, Args, Names, Fresh, Lasts, fresh, own, values, lasts, tokens, entry}
 use Rattle.lent.proofs.Calls.{pre, post, unasked}
 use Rattle.lent.proofs.Meets.{Done}

@@ -29,7 +29,7 @@ use types.Run.{first as first′, returns-within, assigns-last, exec, switches-o
 use types.Part.{Part, Rest, whole, sub, look-in, taken, given-back, agg}
 use types.Match.{live, vrt, in-variant, look-tag}
 use denote.Slice.{sliceTy, sliceVal}
-use Rattle.lent.proofs.Locals.{Places, env, Slot, empty, full, away, unlessAway, typeAt, placeAt, slotAt, heldAt, freeAt, sets, holding, resultOf, full-slot, free-type, home, cell, cells, env-at, pos, nth-cell, put-cell, frees-all}
+use Rattle.lent.proofs.Locals.{Places, env, Slot, empty, full, away, unlessAway, typeAt, placeAt, slotAt, heldAt, freeAt, holding, resultOf, full-slot, free-type, home, cell, cells, env-at, pos, nth-cell, put-cell, frees-all}
 
 -- ---- a field of a value: its type, its offset, and its value
 abbrev fieldsOf : Val → Option Vals
@@ -337,7 +337,7 @@ module _ {M : Type 1} {𝓤 : URA M} {H : Heap 𝓤} {A : Atoms 𝓤} {K : Type 
       run = typed-at t W ls pl Δ vs i st x e (λ wt. assigns-last t (of-opd t (reads-at t W ls pl Δ vs i st x e)) (finds-free t W ls pl Δ vs k f) (writes-at t W ls pl Δ vs k (x .1 .1) f wt) $ exec t C Λ (env ls pl) rest (then 𝓤 H C Λ (env ls pl) Kf ks) $ w .run);
     }
 
-  -- a struct is built
+  -- a struct or a variant is built
   pub builds : K → {k : ℕ} {τ : Ty} {xs : List Operand} {us : List Val} {rest : Body} → operands ls vs xs ≡ some us → freeAt ls vs k ≡ some τ → T (hasTy τ (vstruct (ofList us))) × WT (vstruct (ofList us))
       → Walk K W C Λ ls pl Kf Δ (holding k (vstruct (ofList us)) vs) ks rest → Walk K W C Λ ls pl Kf Δ vs ks (seq (assign (place k []) (aggregate xs)) rest)
   builds t {k} {τ} {xs} {us} e f wt w = record { run = assigns t (agg t (reads-all t W ls pl Δ vs xs us e)) (finds-free t W ls pl Δ vs k f) (writes-at t W ls pl Δ vs k (vstruct (ofList us)) f wt) $ w .run }
@@ -379,13 +379,12 @@ module _ {M : Type 1} {𝓤 : URA M} {H : Heap 𝓤} {A : Atoms 𝓤} {K : Type 
       → Walk K W C Λ ls pl Kf Δ (holding (suc k) (sliceVal (b, o) n) (holding k (vptr b o) vs)) ks rest
       → Walk K W C Λ ls pl Kf Δ vs ks (seq (assign (place k []) (addrOf (place i (field 0 ∷ deref τ ∷ [])))) (seq (assign (place (suc k) []) (aggregate (copy (place k []) ∷ copy (place i (field 1 ∷ [])) ∷ []))) rest))
   reborrows t {i} {k} {b} {o} {n} {ρ} {σ} {τ} {κ} {μ} e h f g h′ w =
-      let c = cell-of t W ls pl Δ vs i e h in
       let ws = holding k (vptr b o) vs in
-      record {
-        run = typed-in t (pos 𝓤 H A Δ i) c (λ wt.
-            assigns t (addr t (finds t W ls pl Δ vs i e (fld t refl (hop t (look-in t (pos 𝓤 H A Δ i) (sub t 0 refl c)) (stop t))))) (finds-free t W ls pl Δ vs k f) (writes-at t W ls pl Δ vs k (vptr b o) f (tt, tt)) $
+      points t e h f
+      (record {
+        run = typed-in t (pos 𝓤 H A Δ i) (cell-of t W ls pl Δ ws i e h′) (λ wt.
             assigns t (agg t (and-then t (reads-at t W ls pl Δ ws k [] (tyRef κ μ σ, (zero, vptr b o)) (local-value ls ws k [] (free-type (slotAt vs k) (typeAt ls k) f) (held-now k (vptr b o) vs))) (and-then t (reads-at t W ls pl Δ ws i (field 1 ∷ []) (tyInt w64, (_, vint w64 n)) (local-value ls ws i (field 1 ∷ []) e h′)) (no-more t)))) (finds-free t W ls pl Δ ws (suc k) g) (writes-at t W ls pl Δ ws (suc k) (sliceVal (b, o) n) g (tt, wt .1)) $ w .run);
-      }
+      })
 
   -- the function returns what local 0 holds, and its locals are freed
   pub returning : K → {τ : Ty} {r : Val} → typeAt ls zero ≡ some τ → resultOf vs ≡ some r → ent 𝓤 (⋆ 𝓤 H A Δ) (Kf r) → Walk K W C Λ ls pl Kf Δ vs ks return

@@ -1,7 +1,6 @@
 -- What the functions that a walk calls ask and say, each as its contract has it, and the plain data that they pass. Assumes nothing.
 use mathlib.Core.List.{List, [], _∷_}
 use Prim.Native.Nat.{ℕ}
-use lib.Ieee.{Float}
 use lib.ListN.{length}
 use denote.Builtin.{usize, f64}
 use denote.Ref.{now}
@@ -12,7 +11,6 @@ use Rattle.lent.proofs.Held.{Kind, Deal, Args, Lasts, unique, shared, plain}
 use Rattle.lent.proofs.Clauses.{All}
 use Rattle.binary_segmentation.specs.declared.tree.Settings.{Settings}
 use Rattle.binary_segmentation.specs.declared.tree.Counts.{Counts}
-use Rattle.binary_segmentation.specs.Growth.{Lent}
 use Rattle.binary_segmentation.proofs.Data.{node, settings, counts}
 use Rattle.binary_segmentation.proofs.tree.Settings as settings′
 use Rattle.binary_segmentation.proofs.tree.Settings.Laws as settings″
@@ -82,8 +80,8 @@ abbrev pub grown-says : (xs : Args tree-ks) → Grown → Lasts tree-ks xs → L
 grown-says xs r (_, (_, (_, (_, (_, (_, (_, (sums′, (rows′, (gains′, (nodes′, (cuts′, _)))))))))))) =
     growing-says (callOf xs) (xs .1 .1 .1 .1 .1 .1 .1 .1 .1 .1 .0 .list) (xs .1 .1 .1 .1 .1 .1 .1 .1 .1 .1 .1 .0 .list) r sums′ (record { rows = rows′; gains = gains′; nodes = nodes′; cuts = cuts′ })
 
-abbrev pub treeing : Deal
-treeing = record { ks = tree-ks; res = grown; asks = λ _. Unit {0}; says = λ xs r ws. All (grown-says xs r ws) }
+abbrev pub answering : Deal
+answering = record { ks = tree-ks; res = grown; asks = λ _. Unit {0}; says = λ xs r ws. All (grown-says xs r ws) }
 
 -- ---- tree::split_points
 abbrev points-ks : List Kind

@@ -9,18 +9,17 @@ use lib.Seq.{drop-append-add, drop-drop}
 use Rattle.scope.specs.Lists.{holding}
 use Rattle.scope.specs.Refusals.{unless, toldUnless}
 use Rattle.scope.specs.Sums.{prefixSums}
-use Rattle.scope.specs.Grid.{Record}
 use Rattle.scope.specs.Layers.{seeded, layersTotal}
-use Rattle.scope.specs.Tree.{Run, direct, seedRecords, grown, recordsOf, treeOf, Node, nodes, sheet}
-use Rattle.scope.specs.Calls.{Room, Counts, runOf, countsOf, treeRefusal, treeAnswer, treeSums, treeRecords, treeNodes, treeCuts}
+use Rattle.scope.specs.Tree.{Run, direct, seedRecords, grown, recordsOf, treeOf, nodes, sheet}
+use Rattle.scope.specs.Calls.{Room, runOf, countsOf, treeRefusal, treeAnswer, treeSums, treeRecords, treeNodes, treeCuts}
 use Rattle.scope.proofs.Sums.{length-flat}
 use Rattle.segmentation.specs.Flat.{flatRows, gainsOf}
 use Rattle.segmentation.proofs.Flat.{rows-append, gains-append, records-told}
 use Rattle.segmentation.proofs.Stored.{seeds-few}
 use Rattle.lent.proofs.Clauses.{All}
-use Rattle.binary_segmentation.specs.declared.node.Node.{Node as NodeStruct}
+use Rattle.binary_segmentation.specs.declared.node.Node.{Node}
 use Rattle.binary_segmentation.specs.declared.tree.Settings.{Settings}
-use Rattle.binary_segmentation.specs.declared.tree.Counts.{Counts as CountsStruct}
+use Rattle.binary_segmentation.specs.declared.tree.Counts.{Counts}
 use Rattle.binary_segmentation.specs.Nodes.{toNode}
 use Rattle.binary_segmentation.specs.Growth.{runOver, Lent, stored, Sized, Ready, Holds, Segmented}
 use Rattle.changeforest.specs.declared.tree.Grown.{Grown}
@@ -57,7 +56,7 @@ preparing-says c r sums′ rows′ gains′ =
     ∷ (gains′ ≡ holding (gainsOf (seedsTold (c .cells) (c .n) (c .d) (c .m) (c .threshold) (c .forbidden) (c .layers) (roomIn c))) (c .gains))
     ∷ []
 
-abbrev pub growing-says : Call → List NodeStruct → List ℕ → Grown → List Float → Lent → List (Type 0)
+abbrev pub growing-says : Call → List Node → List ℕ → Grown → List Float → Lent → List (Type 0)
 growing-says c nodes₀ cuts₀ r sums′ l =
     (r ≡ grownOf (treeAnswer (c .cells) (c .n) (c .d) (c .m) (c .threshold) (c .forbidden) (c .layers) (roomIn c)))
     ∷ (sums′ ≡ holding (treeSums (c .cells) (c .n) (c .d) (c .m) (c .threshold) (c .forbidden) (c .layers) (roomIn c)) (c .sums))
@@ -81,7 +80,7 @@ splitting-says c cuts₀ r sums′ rows′ gains′ cuts′ =
 told-on : {A : Type 0} (xs ys l : List A) → holding (xs ++ ys) (holding xs l) ≡ holding (xs ++ ys) l
 told-on {A} xs ys l = rw (length-append xs ys) (ap (λ (t : List A). (xs ++ ys) ++ t) (drop-append-add xs (drop (length xs) l) (length ys) ∙ drop-drop (length ys) (length xs) l))
 
-module _ (c : Call) (nodes₀ : List NodeStruct) (cuts₀ : List ℕ) (sums′ : List Float) (rows′ : List ℕ) (gains′ : List Float) where
+module _ (c : Call) (nodes₀ : List Node) (cuts₀ : List ℕ) (sums′ : List Float) (rows′ : List ℕ) (gains′ : List Float) where
   abbrev q : Run
   q = runOf (c .cells) (c .n) (c .d) (c .m) (c .threshold) (c .forbidden) (c .layers)
 
@@ -167,7 +166,7 @@ module _ (c : Call) (nodes₀ : List NodeStruct) (cuts₀ : List ℕ) (sums′ :
         room-cuts = omega (arith, clean .cuts-fit, room-cuts);
       }
 
-    pub grown-told : (l : Lent) (next : CountsStruct) → Segmented (take len sums′) (c .forbidden) settingsOf (c .n) count lentOf l next → All (growing-says c nodes₀ cuts₀ (Counted next) sums′ l)
+    pub grown-told : (l : Lent) (next : Counts) → Segmented (take len sums′) (c .forbidden) settingsOf (c .n) count lentOf l next → All (growing-says c nodes₀ cuts₀ (Counted next) sums′ l)
     unfolding treeAnswer treeSums treeRecords treeNodes treeCuts recordsOf
     grown-told l next segmented =
         let h : Holds q lentOf l next = rw part at (segmented .by (seeded (c .n) (c .layers)) seeds-stand) in

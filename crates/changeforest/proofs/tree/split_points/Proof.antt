@@ -15,13 +15,12 @@ use contract.Monad.{Fun}
 use contract.Running.{givenOf, tables, tablesOf}
 use types.Kit.{Given, ! }
 use sound.WpLaws.{fmOf, WpFn-mono}
-use denote.Ref.{now}
 use denote.Slice.{Room}
 use denote.Triple.Entry.{onEntry}
 use denote.Triple.Spec.{Meets, tripleOf}
 use denote.Triple.Table.{entered, cited}
 use Rattle.lent.proofs.Data.{Fit, word}
-use Rattle.lent.proofs.Held.{Args, Lasts, handed, anew}
+use Rattle.lent.proofs.Held.{Args, handed, anew}
 use Rattle.lent.proofs.Walk.{_▸_, builds, reborrows, returning}
 use Rattle.lent.proofs.Calls.{Known, unasked, calls}
 use Rattle.lent.proofs.Arrays.{whole, fills, address, lends-array, array-back}
@@ -37,7 +36,7 @@ use Rattle.binary_segmentation.proofs.node.Node.without_choice.Met as blank-thm
 use Rattle.changeforest.specs.Answers.{nodeRoom}
 use Rattle.changeforest.specs.declared.tree.Grown.{Grown}
 use Rattle.changeforest.proofs.tree.Whole.{Call, growing-says, splitting-says}
-use Rattle.changeforest.proofs.tree.Deals.{grown-says, treeing, call-with, split-says, splitting}
+use Rattle.changeforest.proofs.tree.Deals.{grown-says, answering, call-with, split-says, splitting}
 use Rattle.changeforest.proofs.tree.binary_segmentation.Symbol as tree-def
 use Rattle.changeforest.proofs.tree.binary_segmentation.Symbol.{name as #tree}
 use Rattle.changeforest.proofs.tree.binary_segmentation.Met as tree-thm
@@ -56,7 +55,7 @@ zero-fits = (refl, omega arith)
 told : (c : ℕ → Call) (nodes : List Node) (cuts : List ℕ) (r : Grown) (sums′ : List Float) (l : Lent) → length nodes ≡ nodeRoom → All (growing-says (c (length nodes)) nodes cuts r sums′ l) → All (splitting-says (c nodeRoom) cuts r sums′ (l .rows) (l .gains) (l .cuts))
 told c nodes cuts r sums′ l len (a, (s, (rows, (gains, (_, k))))) = subst (λ (n : ℕ). All (splitting-says (c n) cuts r sums′ (l .rows) (l .gains) (l .cuts))) len (a, (s, (rows, (gains, k))))
 
-module _ {M : Type 1} (𝓤 : URA M) (H : Heap 𝓤) (A : Atoms 𝓤) (W : Given 𝓤 H A) (𝓣 : Tables 𝓤 H) (known-blank : Known 𝓤 H A W blanking (𝓣 .C #blank)) (known-tree : Known 𝓤 H A W treeing (𝓣 .C #tree)) where
+module _ {M : Type 1} (𝓤 : URA M) (H : Heap 𝓤) (A : Atoms 𝓤) (W : Given 𝓤 H A) (𝓣 : Tables 𝓤 H) (known-blank : Known 𝓤 H A W blanking (𝓣 .C #blank)) (known-tree : Known 𝓤 H A W answering (𝓣 .C #tree)) where
   walk : (xs : Args (splitting .ks)) → Walked 𝓤 H A W splitting (𝓣 .C) (𝓣 .Λ) code.function refl xs
   walk xs good asked pl =
       let (cells, (n, (d, (m, (threshold, (forbidden, (layers, (sums, (rows, (gains, (cuts, _))))))))))) = xs in
@@ -70,9 +69,9 @@ module _ {M : Type 1} (𝓤 : URA M) (H : Heap 𝓤) (A : Atoms 𝓤) (W : Given
       reborrows ! refl refl refl refl refl ▸ reborrows ! refl refl refl refl refl ▸ reborrows ! refl refl refl refl refl ▸ address ! refl refl ▸ builds ! refl refl (tt, (tt, (record { fits = room .0 }, tt))) ▸ reborrows ! refl refl refl refl refl ▸
       lends-array ! node 12 12 l refl refl is tt room (λ ν γ.
       let nodes = whole 8189 (pl .1 .1 .1 .1 .1 .1 .1 .1 .1 .1 .1 .1 .0) ν γ l in
-      let args : Args (treeing .ks) = (cells, (n, (d, (m, (threshold, (forbidden, (layers, (sums, (rows, (gains, (nodes, (cuts, tt)))))))))))) in
+      let args : Args (answering .ks) = (cells, (n, (d, (m, (threshold, (forbidden, (layers, (sums, (rows, (gains, (nodes, (cuts, tt)))))))))))) in
       let len = is .1 .0 .1 in
-      calls 𝓤 H A W treeing args (X, (n-fits, (d-fits, (m-fits, (t-fits, (F, (L, (S, (R, (G, ((len, room), (K, tt)))))))))))) tt ! 1 refl (fmOf 𝓤 H (W .laws) 𝓣) (known-tree args) refl refl refl (λ r ws ret.
+      calls 𝓤 H A W answering args (X, (n-fits, (d-fits, (m-fits, (t-fits, (F, (L, (S, (R, (G, ((len, room), (K, tt)))))))))))) tt ! 1 refl (fmOf 𝓤 H (W .laws) 𝓣) (known-tree args) refl refl refl (λ r ws ret.
       let (_, (_, (_, (_, (_, (_, (_, (sums′, (rows′, (gains′, (nodes′, (cuts′, _)))))))))))) = ws in
       let (same-sums, (same-rows, (same-gains, (_, (same-cuts, _))))) = ret .long in
       array-back ! node 12 12 nodes′ refl refl (λ a′ is′.
@@ -93,5 +92,5 @@ split-points-spec 𝓤 H 𝓜 𝓖 𝓡 =
     entered 𝓤 H (tripleOf 𝓤 H (𝓖 .A) f.signature (f.spec 𝓤 H (𝓖 .A) (𝓜 .mem) (𝓡 .run))) (tables 𝓤 H 𝓜 𝓡 code.env .C) (tables 𝓤 H 𝓜 𝓡 code.env .Λ) #split-points code.function (code.unfolded 𝓤 H 𝓜 𝓡)
     (split-points-meets 𝓤 H (𝓖 .A) W 𝓣
     (λ xs fr. unasked 𝓤 H (𝓖 .A) W blanking xs fr (cited 𝓤 H _ 𝓜 𝓡 code.env #blank blank-def.routine code.calls-binary-segmentation·node·Node·without-choice (blank-thm.met 𝓤 H 𝓜 𝓖 𝓡) (anew blanking xs fr)))
-    (λ xs fr. known-each 𝓤 H (𝓖 .A) W treeing xs (grown-says xs) (λ r ws said. said) (fmOf 𝓤 H (W .laws) 𝓣) #tree fr
-    (cited 𝓤 H _ 𝓜 𝓡 code.env #tree tree-def.routine code.calls-changeforest·tree·binary-segmentation (tree-thm.met 𝓤 H 𝓜 𝓖 𝓡) (anew treeing xs fr))) (𝓜 .mem) (𝓡 .run))
+    (λ xs fr. known-each 𝓤 H (𝓖 .A) W answering xs (grown-says xs) (λ r ws said. said) (fmOf 𝓤 H (W .laws) 𝓣) #tree fr
+    (cited 𝓤 H _ 𝓜 𝓡 code.env #tree tree-def.routine code.calls-changeforest·tree·binary-segmentation (tree-thm.met 𝓤 H 𝓜 𝓖 𝓡) (anew answering xs fr))) (𝓜 .mem) (𝓡 .run))

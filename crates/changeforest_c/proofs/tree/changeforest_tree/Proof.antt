@@ -32,7 +32,7 @@ use Rattle.binary_segmentation.proofs.Data.{node}
 use Rattle.changeforest.specs.declared.tree.Grown.{Grown}
 use Rattle.changeforest.specs.Answers.{grownOf, roomOf}
 use Rattle.changeforest_c.specs.Told.{numberOf, countsOr, grownNumber, grownCounts}
-use Rattle.changeforest.proofs.tree.Deals.{grown, callOf, grown-says, treeing}
+use Rattle.changeforest.proofs.tree.Deals.{grown, callOf, grown-says, answering}
 use Rattle.changeforest.proofs.tree.binary_segmentation.Symbol as entry-def
 use Rattle.changeforest.proofs.tree.binary_segmentation.Symbol.{name as #entry}
 use Rattle.changeforest.proofs.tree.binary_segmentation.Met as entry-thm
@@ -61,7 +61,7 @@ telling = record { ks = tell-ks; res = number; asks = λ _. Unit {0}; says = λ 
 abbrev ks : List Kind
 ks = shared f64 ∷ plain word ∷ plain word ∷ plain word ∷ plain float ∷ shared usize ∷ shared f64 ∷ unique f64 ∷ unique usize ∷ unique f64 ∷ unique (node .row) ∷ unique usize ∷ unique usize ∷ []
 
-abbrev entryOf : Args ks → Args (treeing .ks)
+abbrev entryOf : Args ks → Args (answering .ks)
 entryOf (cells, (n, (d, (m, (threshold, (forbidden, (layers, (sums, (rows, (gains, (nodes, (cuts, _)))))))))))) =
     (cells, (n, (d, (m, (threshold, (forbidden, (layers, (sums, (rows, (gains, (nodes, (cuts, tt))))))))))))
 
@@ -69,10 +69,10 @@ abbrev answerOf : Args ks → Answer Counts
 answerOf xs = let c = callOf (entryOf xs) in treeAnswer (c .cells) (c .n) (c .d) (c .m) (c .threshold) (c .forbidden) (c .layers) (roomOf (c .sums) (c .rows) (c .gains) (c .nodes) (c .cuts))
 
 -- what is left: what the entry point leaves, and counts
-abbrev leftOf : (xs : Args ks) → Lasts (treeing .ks) (entryOf xs) → List ℕ → Lasts ks xs
+abbrev leftOf : (xs : Args ks) → Lasts (answering .ks) (entryOf xs) → List ℕ → Lasts ks xs
 leftOf xs (_, (_, (_, (_, (_, (_, (_, (sums, (rows, (gains, (nodes, (cuts, _)))))))))))) counts = (tt, (tt, (tt, (tt, (tt, (tt, (tt, (sums, (rows, (gains, (nodes, (cuts, (counts, tt)))))))))))))
 
-abbrev lastOf : (xs : Args ks) → Lasts ks xs → Lasts (treeing .ks) (entryOf xs)
+abbrev lastOf : (xs : Args ks) → Lasts ks xs → Lasts (answering .ks) (entryOf xs)
 lastOf xs (_, (_, (_, (_, (_, (_, (_, (sums, (rows, (gains, (nodes, (cuts, _)))))))))))) = (tt, (tt, (tt, (tt, (tt, (tt, (tt, (sums, (rows, (gains, (nodes, (cuts, tt))))))))))))
 
 -- the number, what the entry point says of the lists, and counts
@@ -101,13 +101,13 @@ module _ (a : Answer Counts) (g : Grown) (is : g ≡ grownOf a) where
   counts-told : (before after : List ℕ) → after ≡ grownCounts g before → after ≡ countsOr a before
   counts-told before after e = e ∙ ap (λ (x : Grown). grownCounts x before) is ∙ counts-are a before
 
-module _ {M : Type 1} (𝓤 : URA M) (H : Heap 𝓤) (A : Atoms 𝓤) (W : Given 𝓤 H A) (𝓣 : Tables 𝓤 H) (known-entry : Known 𝓤 H A W treeing (𝓣 .C #entry)) (known-tell : Known 𝓤 H A W telling (𝓣 .C #tell)) where
+module _ {M : Type 1} (𝓤 : URA M) (H : Heap 𝓤) (A : Atoms 𝓤) (W : Given 𝓤 H A) (𝓣 : Tables 𝓤 H) (known-entry : Known 𝓤 H A W answering (𝓣 .C #entry)) (known-tell : Known 𝓤 H A W telling (𝓣 .C #tell)) where
   walk : (xs : Args ks) → Walked 𝓤 H A W exporting (𝓣 .C) (𝓣 .Λ) code.function refl xs
   walk xs good asked pl =
       let (_, (_, (_, (_, (_, (_, (_, (_, (_, (_, (_, (_, (counts, _))))))))))))) = xs in
       let (X, (n-fits, (d-fits, (m-fits, (t-fits, (F, (L, (S, (R, (G, (N, (K, (C, _))))))))))))) = good in
       reborrows ! refl refl refl refl refl ▸ reborrows ! refl refl refl refl refl ▸ reborrows ! refl refl refl refl refl ▸ reborrows ! refl refl refl refl refl ▸ reborrows ! refl refl refl refl refl ▸
-      calls 𝓤 H A W treeing (entryOf xs) (X, (n-fits, (d-fits, (m-fits, (t-fits, (F, (L, (S, (R, (G, (N, (K, tt)))))))))))) tt ! 0 refl (fmOf 𝓤 H (W .laws) 𝓣) (known-entry (entryOf xs)) refl refl refl (λ g ws grew.
+      calls 𝓤 H A W answering (entryOf xs) (X, (n-fits, (d-fits, (m-fits, (t-fits, (F, (L, (S, (R, (G, (N, (K, tt)))))))))))) tt ! 0 refl (fmOf 𝓤 H (W .laws) 𝓣) (known-entry (entryOf xs)) refl refl refl (λ g ws grew.
       reborrows ! refl refl refl refl refl ▸
       calls 𝓤 H A W telling (g, (counts, tt)) (grew .is, (C, tt)) tt ! 16 refl (fmOf 𝓤 H (W .laws) 𝓣) (known-tell (g, (counts, tt))) refl refl refl (λ r us told.
       let h = grew .said in
@@ -128,5 +128,5 @@ changeforest-tree-spec 𝓤 H 𝓜 𝓖 𝓡 =
     let W = givenOf 𝓤 H 𝓜 𝓖 in
     entered 𝓤 H (tripleOf 𝓤 H (𝓖 .A) f.signature (f.spec 𝓤 H (𝓖 .A) (𝓜 .mem) (𝓡 .run))) (tables 𝓤 H 𝓜 𝓡 code.env .C) (tables 𝓤 H 𝓜 𝓡 code.env .Λ) #changeforest-tree code.function (code.unfolded 𝓤 H 𝓜 𝓡)
     (changeforest-tree-meets 𝓤 H (𝓖 .A) W 𝓣
-    (λ xs fr. known-each 𝓤 H (𝓖 .A) W treeing xs (grown-says xs) (λ r ws said. said) (fmOf 𝓤 H (W .laws) 𝓣) #entry fr (cited 𝓤 H _ 𝓜 𝓡 code.env #entry entry-def.routine code.calls-changeforest·tree·binary-segmentation (entry-thm.met 𝓤 H 𝓜 𝓖 𝓡) (anew treeing xs fr)))
+    (λ xs fr. known-each 𝓤 H (𝓖 .A) W answering xs (grown-says xs) (λ r ws said. said) (fmOf 𝓤 H (W .laws) 𝓣) #entry fr (cited 𝓤 H _ 𝓜 𝓡 code.env #entry entry-def.routine code.calls-changeforest·tree·binary-segmentation (entry-thm.met 𝓤 H 𝓜 𝓖 𝓡) (anew answering xs fr)))
     (λ xs fr. known-each 𝓤 H (𝓖 .A) W telling xs (told-says xs) (λ r ws said. said) (fmOf 𝓤 H (W .laws) 𝓣) #tell fr (cited 𝓤 H _ 𝓜 𝓡 code.env #tell tell-def.routine code.calls-changeforest-c·tree·tell (tell-thm.met 𝓤 H 𝓜 𝓖 𝓡) (anew telling xs fr))) (𝓜 .mem) (𝓡 .run))

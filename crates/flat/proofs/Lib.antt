@@ -1,0 +1,2 @@
+-- Proofs of crate `flat`.
+pub mod Deals
