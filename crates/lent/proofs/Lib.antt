@@ -1,8 +1,6 @@
 -- Rules for a walk by hand over lent slices, leaves first.
 pub mod Again
 pub mod Relend
-pub mod Shares
-pub mod SharesOn
 pub mod Data
 pub mod Held
 pub mod First
