@@ -6,7 +6,7 @@ use mathlib.Core.Option.{some}
 use Prim.Native.Nat.{ℕ, _+_, _-_, _*_, _/_, _≤_, _<_}
 use native.Mathlib.Nat.{add-mul, mul-le-mul-right}
 use native.Mathlib.Omega.{arith}
-use borrow.Author.Tests.{ltb-false, eqb-true, eqb-false, not-false}
+use borrow.Author.Tests.{ltb-false, le-ltb, eqb-true, eqb-false, not-false}
 use lib.Dec.{leb}
 use lib.Ieee.{Float}
 use lib.ListN.{length, take, drop}
@@ -226,3 +226,14 @@ tree-clean cells n d m threshold ps layers room e =
       nodes-fit = ltb-false (room .nodes) (mostNodes n m) (room-tests .1 .1 .0);
       cuts-fit = ltb-false (room .cuts) ((mostNodes n m - 1) / 2) (room-tests .1 .1 .1 .0);
     }
+
+-- nor are the seeded segments, in the room for all records
+pub tree-seeds : (cells : List Float) (n d m : ℕ) (threshold : Float) (ps : List ℕ) (layers : List Float) (room : Room) → treeRefusal cells n d m threshold ps layers room ≡ 0
+    → seededRefusal cells n d m ps layers (room .sums) (room .records) ≡ 0
+unfolding treeRefusal seededRefusal
+tree-seeds cells n d m threshold ps layers room e =
+    let p = passed (treeTests cells n d m threshold ps layers room) tt e in
+    let room-tests = p .1 .1 .1 .1 .1 .1 in
+    let total = ltb-false (room .records) (layersTotal layers + mostNodes n m) (room-tests .1 .0) in
+    let fits = le-ltb (room .records) (layersTotal layers) (omega (arith, total)) in
+    rw (p .0, p .1 .0, p .1 .1 .1 .0, p .1 .1 .1 .1 .0, p .1 .1 .1 .1 .1 .0, room-tests .0, fits)

@@ -1,12 +1,11 @@
 // The tree of a run: its node list, its records and its sheet.
 use crate::refusals;
+use crate::segments;
 use binary_segmentation::node::Node;
 use binary_segmentation::tree;
 use binary_segmentation::tree::Counts;
 use binary_segmentation::tree::Settings;
-use gain::change_in_mean;
 use rows::Position;
-use segmentation::seeds;
 ghost use mathlib.Core.Path.{_≡_};
 ghost use mathlib.Core.List.{map};
 ghost use Prim.Native.Nat.{_+_, _*_};
@@ -66,9 +65,8 @@ fn prepare(
     if no != 0 {
         return Prepared::Refused(no);
     }
-    change_in_mean::calculate_cumsum(cells, d, sums);
+    let records = segments::store_seeded(cells, n, d, m, forbidden, layers, sums, rows, gains);
     let len = control::sums_len(n, d);
-    let records = seeds::seed_segments(&sums[..len], n, d, m, forbidden, layers, rows, gains);
     Prepared::Seeded(len, records)
 }
 

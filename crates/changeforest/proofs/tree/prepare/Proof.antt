@@ -1,9 +1,7 @@
 -- `prepare` meets its contract: a number, and nothing is told; or the records of the seeded segments, with the sums left.
 use mathlib.Core.Path.{sym, _∙_, ap}
 use Prim.Native.Nat.{_+_, _*_}
-use native.Mathlib.Omega.{arith}
 use denote.Ref.{now}
-use lib.Seq.{length-take-le}
 use Rattle.scope.specs.Lists.{holding}
 use Rattle.scope.specs.Refusals.{given}
 use Rattle.scope.specs.Tree.{seedRecords}
@@ -11,7 +9,7 @@ use Rattle.scope.specs.Calls.{treeSums}
 use Rattle.segmentation.specs.Flat.{flatRows, gainsOf}
 use Rattle.control.proofs.Sizes.{unless-refused, told-nothing}
 use Rattle.changeforest.specs.Answers.{roomOf, preparedOf, seedsAnswer, seedsTold}
-use Rattle.changeforest.proofs.Clean.{TreeClean, tree-clean, sums-are, sums-part, row-within}
+use Rattle.changeforest.proofs.Clean.{TreeClean, tree-clean, tree-seeds}
 use borrow.Author.Needs.{needs}
 use Rattle.changeforest.proofs.tree.prepare.Statement.{statement}
 use Rattle.changeforest.proofs.tree.prepare.Tie as tie
@@ -38,43 +36,24 @@ returns c =
       ),
     )
 
-calculate-cumsum-requires : tie.Need-calculate-cumsum-requires
-calculate-cumsum-requires c κs = let f = facts (c .before) in (f .sums .shape .columns .0, omega (arith, f .sums .total, f .sums .fits))
+store-seeded-requires : tie.Need-store-seeded-requires
+store-seeded-requires c κs =
+    let past = c .before .before .before in
+    let s = past .before .before .before .before .before .before .before .before .before .args in
+    tree-seeds (now (s .cells)) (s .n) (s .d) (s .m) (s .threshold) (now (s .forbidden)) (now (s .layers)) (roomOf (now (s .sums)) (now (s .rows)) (now (s .gains)) (s .nodes) (s .cuts)) (rw (← past .before .before .record-room .ensures) (sym (past .before .tree-refusal .ensures) ∙ past .if1 .left))
 
 sums-len-requires : tie.Need-sums-len-requires
-sums-len-requires c κs = let f = facts (c .before .before .before .before) in (f .sums .shape .rows .1, f .sums .shape .columns .1)
-
-slice-reshare-prefix-seed-segments : tie.Need-slice-reshare-prefix-seed-segments
-slice-reshare-prefix-seed-segments c = let f = facts (c .before .before .before .before .before) in omega (arith, f .sums .fits)
-
-slice-aggregate-seed-segments : tie.Need-slice-aggregate-seed-segments
-slice-aggregate-seed-segments c = let f = facts (c .before .before .before .before .before .before) in sym (length-take-le _ _ (omega (arith, f .sums .fits)))
-
-seed-segments-requires : tie.Need-seed-segments-requires
-seed-segments-requires c κs =
-    let f = facts (c .before .before .before .before .before .before .before .before) in
-    let s = c .before .before .before .before .before .before .before .before .before .before .before .before .before .before .before .before .before .args in
-    ((f .sums .shape .rows .1, omega (arith, f .lengths .1), rw (c .before .before .before .sums-len .ensures) (row-within (s .n) (s .n) (s .d) _ (omega arith) (omega (arith, f .sums .fits)))), (f .layers-right, (omega (arith, f .records-fit), omega (arith, f .records-fit))))
+sums-len-requires c κs = let f = facts (c .before .before .before .before .before .before .before .before .before .before) in (f .sums .shape .rows .1, f .sums .shape .columns .1)
 
 returns-2 : tie.Need-returns-2
 unfolding seedsAnswer treeSums seedsTold seedRecords
 returns-2 c =
-    let s = c .before .before .before .before .before .before .before .before .before .before .before .before .before .before .before .before .before .before .before .before .before .before .args in
-    let f = facts (c .before .before .before .before .before .before .before .before .before .before .before .before .before) in
-    let room = c .before .before .before .before .before .before .before .before .before .before .before .before .before .before .before .record-room .ensures in
-    let no = c .before .before .before .before .before .before .before .before .before .before .before .before .before .before .tree-refusal in
-    let sums = c .before .before .before .before .before .before .before .before .before .before .before .calculate-cumsum .ensures in
-    let part = sums-part (now (s .cells)) (s .n) (s .d) _ (now (s .sums)) (f .sums) in
-    let told = c .before .before .before .before .seed-segments .ensures in (
-      rw (← room, ← no .ensures, c .before .before .before .before .before .before .before .before .before .before .before .before .before .if1 .left, c .before .before .before .before .before .before .before .before .sums-len .ensures) (ap (λ k. preparedOf ((s .n + 1) * s .d) (given k)) (told .0 ∙ rw (c .before .before .before .before .before .before .before .before .sums-len .ensures, sums, part))),
-      (
-        rw (← room, ← no .ensures, c .before .before .before .before .before .before .before .before .before .before .before .before .before .if1 .left) (sums ∙ sums-are (now (s .cells)) (s .n) (s .d) (now (s .sums)) (f .sums .shape .long)),
-        (
-          rw (← room, ← no .ensures, c .before .before .before .before .before .before .before .before .before .before .before .before .before .if1 .left) (told .1 .0 ∙ rw (c .before .before .before .before .before .before .before .before .sums-len .ensures, sums, part)),
-          rw (← room, ← no .ensures, c .before .before .before .before .before .before .before .before .before .before .before .before .before .if1 .left) (told .1 .1 ∙ rw (c .before .before .before .before .before .before .before .before .sums-len .ensures, sums, part)),
-        ),
-      ),
-    )
+    let past = c .before .before .before .before .before .before .before .before .before .before .before in
+    let s = past .before .before .before .before .before .before .before .before .before .args in
+    let room = past .before .before .record-room .ensures in
+    let no = past .before .tree-refusal in
+    let told = c .before .before .before .before .before .before .before .store-seeded .ensures in
+    (rw (← room, ← no .ensures, past .if1 .left, c .sums-len .ensures) (ap (λ k. preparedOf ((s .n + 1) * s .d) (given k)) (told .0)), (rw (← room, ← no .ensures, past .if1 .left) (told .1 .0), (rw (← room, ← no .ensures, past .if1 .left) (told .1 .1 .0), rw (← room, ← no .ensures, past .if1 .left) (told .1 .1 .1))))
 
 pub prepare-spec : {M : Type 1} → statement M
 prepare-spec =
@@ -83,11 +62,8 @@ prepare-spec =
     (λ c κs. search needs)
     (λ c κs. search needs)
     returns
-    calculate-cumsum-requires
+    store-seeded-requires
     sums-len-requires
-    slice-reshare-prefix-seed-segments
-    slice-aggregate-seed-segments
-    seed-segments-requires
     (λ c. search needs)
     (λ c. search needs)
     (λ c. search needs)
