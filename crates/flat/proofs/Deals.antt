@@ -23,17 +23,14 @@ telling = record {
   says = λ (_, (_, (_, (flat, _)))) _ (_, (_, (_, (flat′, _)))). length flat′ ≡ length (flat .list);
 }
 
--- least, counted
+-- least
 abbrev pub limiting : Deal
-limiting = record { ks = plain word ∷ []; res = word; asks = λ _. Unit {0}; says = λ _ r _. r ≤ 8189 }
-
-abbrev pub counting : Deal
-counting = record { ks = plain grown ∷ []; res = word; asks = λ _. Unit {0}; says = λ _ r _. r ≤ 8189 }
+limiting = record { ks = plain word ∷ []; res = word; asks = λ _. Unit {0}; says = λ _ r _. r ≤ 8192 }
 
 -- tree_flat
 abbrev pub flattening : Deal
 flattening = record {
-  ks = shared f64 ∷ plain word ∷ plain word ∷ plain word ∷ plain float ∷ shared usize ∷ shared f64 ∷ unique f64 ∷ unique usize ∷ unique f64 ∷ plain word ∷ unique usize ∷ unique usize ∷ unique f64 ∷ [];
+  ks = shared f64 ∷ plain word ∷ plain word ∷ plain word ∷ plain float ∷ shared usize ∷ shared f64 ∷ unique f64 ∷ unique usize ∷ unique f64 ∷ plain word ∷ plain word ∷ unique usize ∷ unique usize ∷ unique f64 ∷ [];
   res = grown;
   asks = λ _. Unit {0};
   says = λ _ _ _. Unit {0};

@@ -69,26 +69,17 @@ pub fn nodes_flat(nodes: &[Node], at: usize, count: usize, flat: &mut [usize], g
     }
 }
 
-// The most nodes that any run has.
-const MOST_NODES: usize = 8189;
+// Room for the most nodes that any run has, 8,189, and for three more.
+pub const ROOM: usize = 8192;
 
 fn least(room: usize) -> usize
-    ensures { λ r. ⌜ r ≤ 8189 ⌝ }
+    ensures { λ r. ⌜ r ≤ 8192 ⌝ }
 {
-    if room < MOST_NODES { room } else { MOST_NODES }
+    if room < ROOM { room } else { ROOM }
 }
 
-// How many nodes an answer counts.
-fn counted(grown: Grown) -> usize
-    ensures { λ r. ⌜ r ≤ 8189 ⌝ }
-{
-    match grown {
-        Grown::Counted(counts) => least(counts.nodes),
-        Grown::Refused(_) => 0,
-    }
-}
-
-// The tree of the run, with room for `room` nodes, and its nodes' numbers and gains.
+// The tree of the run, with room for `room` nodes, each a leaf from `blank` to `blank` before; and then the numbers and gains of all of
+// these, whether the run wrote them or not.
 pub fn tree_flat(
     cells: &[f64],
     n: usize,
@@ -101,11 +92,12 @@ pub fn tree_flat(
     rows: &mut [usize],
     gains: &mut [f64],
     room: usize,
+    blank: usize,
     cuts: &mut [usize],
     flat: &mut [usize],
     node_gains: &mut [f64],
 ) -> Grown {
-    let mut nodes = [Node::without_choice(Position(0), Position(0)); MOST_NODES];
+    let mut nodes = [Node::without_choice(Position(blank), Position(blank)); ROOM];
     let k = least(room);
     let grown = tree::binary_segmentation(
         cells,
@@ -121,7 +113,6 @@ pub fn tree_flat(
         &mut nodes[..k],
         cuts,
     );
-    let count = counted(grown);
-    nodes_flat(&nodes, 0, count, flat, node_gains);
+    nodes_flat(&nodes, 0, k, flat, node_gains);
     grown
 }

@@ -15,6 +15,8 @@ pub const CURVE: usize = 4097;
 
 pub const FORBIDDEN: usize = 256;
 
+pub const LAYERS: usize = 100;
+
 // How many curves of a `perm`, and how many of their bases, are lent.
 pub const CURVES: usize = 3;
 
@@ -151,7 +153,7 @@ impl Case {
         self
     }
 
-    // R, X, ALPHA
+    // R, X, ALPHA, THRESHOLD
     pub fn value(mut self, line: &[u8]) -> Case {
         let value = fields::value_at(line, self.next);
         self.value = value.is;

@@ -6,6 +6,7 @@ use crate::cases::Case;
 use crate::lent;
 use crate::lent::OUTPUT;
 use crate::lent::least;
+use crate::lent::value_in;
 use crate::writing;
 use crate::writing::OUT;
 use changeforest::curves;
@@ -50,6 +51,7 @@ fn read_lent(case: Case, line: &[u8], values: &mut [f64]) -> Case {
     second.deltas(line, values, 2)
 }
 
+// The bases stand before the curves. One past the count isn't looked at: the pattern of lent values stands there.
 pub fn perm(
     case: Case,
     values: &[f64],
@@ -65,9 +67,9 @@ pub fn perm(
         &values[first..second],
         &values[second..third],
         &values[third..end],
-        base(values, 0),
-        base(values, 1),
-        base(values, 2),
+        value_in(values, 0),
+        value_in(values, 1),
+        value_in(values, 2),
         case.k,
         permutations,
         case.p,
@@ -76,11 +78,6 @@ pub fn perm(
         case.maximum,
     );
     write_perm(answer, out, waiting)
-}
-
-// The bases stand before the curves. One past the count isn't looked at: the pattern of lent values stands there.
-fn base(values: &[f64], i: usize) -> f64 {
-    if i < values.len() { values[i] } else { 0.0 }
 }
 
 fn write_perm(answer: Permuted, out: &mut [u8; OUT], waiting: usize) -> usize {

@@ -11,6 +11,7 @@ use crate::lent::VALUE;
 use crate::lent::least;
 use crate::mean;
 use crate::neighbours;
+use crate::tree;
 use crate::two_step;
 use crate::writing;
 use crate::writing::OUT;
@@ -32,6 +33,8 @@ const CAND: usize = 0x1_6361_6e64;
 const GAIN: usize = 0x1_6761_696e;
 
 const SEARCH: usize = 0x1_7365_6172_6368;
+
+const TREE: usize = 0x1_7472_6565;
 
 const ORDER: usize = 0x16f_7264_6572;
 
@@ -94,6 +97,9 @@ fn read(case: Case, line: &[u8], values: &mut [f64], numbers: &mut [usize]) -> C
     if kind == SEARCH {
         return mean::read_search(case, line, values, numbers);
     }
+    if kind == TREE {
+        return tree::read_tree(case, line, values, numbers);
+    }
     if kind == ORDER {
         return neighbours::read_order(case, line, values);
     }
@@ -137,6 +143,9 @@ fn call(
     }
     if kind == SEARCH {
         return mean::search(case, values, numbers, out, waiting);
+    }
+    if kind == TREE {
+        return tree::tree(case, values, numbers, out, waiting);
     }
     if kind == ORDER {
         return neighbours::order(case, values, out, waiting);

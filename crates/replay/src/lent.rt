@@ -86,6 +86,15 @@ pub fn sums_asked(n: usize, d: usize) -> usize {
     times(plus(n, 1), d)
 }
 
+// Entry i of a list; 0 past its end.
+pub fn value_in(list: &[f64], i: usize) -> f64 {
+    if i < list.len() { list[i] } else { 0.0 }
+}
+
+pub fn number_in(list: &[usize], i: usize) -> usize {
+    if i < list.len() { list[i] } else { 0 }
+}
+
 // Whether every entry from `from` to `to` is as it was lent.
 pub fn kept_values(lent: &[f64], from: usize, to: usize) -> bool {
     let end = least(to, lent.len());

@@ -1,7 +1,6 @@
 // Answers cases: the lines of docs/REPLAY.md from standard input, one answer line for each on standard output. A test tool over the
 // entry points: a line is read and judged, its kind's function lends the memory and calls, and what came back is written.
-// stdin holds the lines of oracle/sample.cases whose kinds are answered here, and those that are no case; stdout has their lines of
-// oracle/sample.answers.
+// stdin is oracle/sample.cases, and stdout oracle/sample.answers.
 
 // What all kinds share: lines, fields, a case, which function answers it, lent memory, the answers' text.
 mod cases;
@@ -16,6 +15,7 @@ mod curves;
 mod lengths;
 mod mean;
 mod neighbours;
+mod tree;
 mod two_step;
 
 fn main() {

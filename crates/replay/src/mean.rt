@@ -147,7 +147,7 @@ pub fn search(
 }
 
 // Whether the sums are those that `gain` leaves for the same matrix.
-fn sums_left(cells: &[f64], n: usize, d: usize, sums: &[f64; CELLS]) -> bool {
+pub fn sums_left(cells: &[f64], n: usize, d: usize, sums: &[f64; CELLS]) -> bool {
     let mut others = [lent::VALUE; CELLS];
     let row = Position(0);
     let _gained = mean::gain(cells, n, d, row, row, row, &mut others);

@@ -39,19 +39,24 @@ pub fn word(out: &mut [u8; OUT], waiting: usize, bytes: &[u8]) -> usize {
     now
 }
 
-// A blank and a number.
-pub fn number(out: &mut [u8; OUT], waiting: usize, n: usize) -> usize {
+// A mark and a number.
+pub fn number_after(out: &mut [u8; OUT], waiting: usize, mark: u8, n: usize) -> usize {
     let mut digits = [0u8; 20];
     let k = io::decimal(n as u64, &mut digits);
-    let waiting = byte(out, waiting, b' ');
+    let waiting = byte(out, waiting, mark);
     word(out, waiting, &digits[0..k])
 }
 
-// A blank and at least `width` hex digits.
-fn hex(out: &mut [u8; OUT], waiting: usize, bits: u64, width: usize) -> usize {
+// A blank and a number.
+pub fn number(out: &mut [u8; OUT], waiting: usize, n: usize) -> usize {
+    number_after(out, waiting, b' ', n)
+}
+
+// A mark and at least `width` hex digits.
+fn hex_after(out: &mut [u8; OUT], waiting: usize, mark: u8, bits: u64, width: usize) -> usize {
     let mut digits = [0u8; 16];
     let k = io::hex(bits, width, &mut digits);
-    let waiting = byte(out, waiting, b' ');
+    let waiting = byte(out, waiting, mark);
     word(out, waiting, &digits[0..k])
 }
 
@@ -70,13 +75,18 @@ fn bits_of_f32(x: f32) -> u32 {
     f32::to_bits(x)
 }
 
+// A mark and a value's bits.
+pub fn value_after(out: &mut [u8; OUT], waiting: usize, mark: u8, x: f64) -> usize {
+    hex_after(out, waiting, mark, bits_of(x), 16)
+}
+
 // A blank and a value's bits.
 pub fn value(out: &mut [u8; OUT], waiting: usize, x: f64) -> usize {
-    hex(out, waiting, bits_of(x), 16)
+    value_after(out, waiting, b' ', x)
 }
 
 pub fn value_f32(out: &mut [u8; OUT], waiting: usize, x: f32) -> usize {
-    hex(out, waiting, bits_of_f32(x) as u64, 8)
+    hex_after(out, waiting, b' ', bits_of_f32(x) as u64, 8)
 }
 
 // The first `count` of a list of places.
@@ -95,6 +105,18 @@ fn wide(place: u32) -> usize {
     place as usize
 }
 
+// The first `count` of a list of numbers.
+pub fn numbers(out: &mut [u8; OUT], waiting: usize, list: &[usize], count: usize) -> usize {
+    let n = least(count, list.len());
+    let mut now = waiting;
+    let mut i = 0;
+    while i < n {
+        now = number(out, now, list[i]);
+        i += 1;
+    }
+    now
+}
+
 // The first `count` of a list, and the line's end.
 pub fn numbers_end(
     out: &mut [u8; OUT],
@@ -103,14 +125,8 @@ pub fn numbers_end(
     count: usize,
     kept: bool,
 ) -> usize {
-    let n = least(count, list.len());
-    let mut now = waiting;
-    let mut i = 0;
-    while i < n {
-        now = number(out, now, list[i]);
-        i += 1;
-    }
-    end(out, now, kept)
+    let waiting = numbers(out, waiting, list, count);
+    end(out, waiting, kept)
 }
 
 pub fn values_end(

@@ -37,13 +37,10 @@ use Rattle.changeforest.proofs.tree.Deals.{grown-says, answering}
 use Rattle.changeforest.proofs.tree.binary_segmentation.Symbol as tree-def
 use Rattle.changeforest.proofs.tree.binary_segmentation.Symbol.{name as #tree}
 use Rattle.changeforest.proofs.tree.binary_segmentation.Met as tree-thm
-use Rattle.flat.proofs.Deals.{telling, limiting, counting, flattening}
+use Rattle.flat.proofs.Deals.{telling, limiting, flattening}
 use Rattle.flat.proofs.least.Symbol as least-def
 use Rattle.flat.proofs.least.Symbol.{name as #least}
 use Rattle.flat.proofs.least.Met as least-thm
-use Rattle.flat.proofs.counted.Symbol as counted-def
-use Rattle.flat.proofs.counted.Symbol.{name as #counted}
-use Rattle.flat.proofs.counted.Met as counted-thm
 use Rattle.flat.proofs.nodes_flat.Symbol as nodes-flat-def
 use Rattle.flat.proofs.nodes_flat.Symbol.{name as #nodes-flat}
 use Rattle.flat.proofs.nodes_flat.Met as nodes-flat-thm
@@ -52,27 +49,27 @@ use Rattle.flat.proofs.tree_flat as f
 use Rattle.flat.proofs.tree_flat.Statement as stated
 use Rattle.flat.proofs.tree_flat.Code as code
 
-room : (k : ℕ) → k ≤ 8189 → Room (node .row) k
+room : (k : ℕ) → k ≤ 8192 → Room (node .row) k
 room k few = (omega arith, omega arith)
 
-most : Room (node .row) 8189
-most = room 8189 (omega arith)
+most : Room (node .row) 8192
+most = room 8192 (omega arith)
 
 zero-fits : Fit word 0
 zero-fits = (refl, omega arith)
 
 module _ {M : Type 1} (𝓤 : URA M) (H : Heap 𝓤) (A : Atoms 𝓤) (W : Given 𝓤 H A) (𝓣 : Tables 𝓤 H) (known-blank : Known 𝓤 H A W blanking (𝓣 .C #blank)) (known-least : Known 𝓤 H A W limiting (𝓣 .C #least))
-    (known-tree : Known 𝓤 H A W answering (𝓣 .C #tree)) (known-counted : Known 𝓤 H A W counting (𝓣 .C #counted)) (known-flat : Known 𝓤 H A W telling (𝓣 .C #nodes-flat)) where
+    (known-tree : Known 𝓤 H A W answering (𝓣 .C #tree)) (known-flat : Known 𝓤 H A W telling (𝓣 .C #nodes-flat)) where
   walk : (xs : Args (flattening .ks)) → Walked 𝓤 H A W flattening (𝓣 .C) (𝓣 .Λ) code.function refl xs
   walk xs good asked pl =
-      let (cells, (n, (d, (m, (threshold, (forbidden, (layers, (sums, (rows, (gains, (limit, (cuts, (flat, (told, _)))))))))))))) = xs in
-      let (X, (n-fits, (d-fits, (m-fits, (t-fits, (F, (L, (S, (R, (G, (limit-fits, (K, (P, (Q, _)))))))))))))) = good in
+      let (cells, (n, (d, (m, (threshold, (forbidden, (layers, (sums, (rows, (gains, (limit, (blank, (cuts, (flat, (told, _))))))))))))))) = xs in
+      let (X, (n-fits, (d-fits, (m-fits, (t-fits, (F, (L, (S, (R, (G, (limit-fits, (blank-fits, (K, (P, (Q, _))))))))))))))) = good in
       let fm = fmOf 𝓤 H (W .laws) 𝓣 in
       let row = node .row in
-      let b = pl .1 .1 .1 .1 .1 .1 .1 .1 .1 .1 .1 .1 .1 .1 .1 .0 in
-      let first-fits = position-fits 0 zero-fits in
+      let b = pl .1 .1 .1 .1 .1 .1 .1 .1 .1 .1 .1 .1 .1 .1 .1 .1 .0 in
+      let first-fits = position-fits blank blank-fits in
       let typed-first = position .lawful 𝓤 H A W .typed _ _ first-fits .0 in
-      let ends : Args (blanking .ks) = (record { 0 = 0 }, (record { 0 = 0 }, tt)) in
+      let ends : Args (blanking .ks) = (record { 0 = blank }, (record { 0 = blank }, tt)) in
       let limits : Args (limiting .ks) = (limit, tt) in
       builds ! refl refl typed-first ▸ builds ! refl refl typed-first ▸
       calls 𝓤 H A W blanking ends (first-fits, (first-fits, tt)) tt ! 0 refl fm (known-blank ends) refl refl refl (λ x _ made.
@@ -81,29 +78,27 @@ module _ {M : Type 1} (𝓤 : URA M) (H : Heap 𝓤) (A : Atoms 𝓤) (W : Given
       let len = is .1 .0 .1 in
       let few : k ≤ length l = omega (arith, len, limited .said) in
       reborrows ! refl refl refl refl refl ▸ reborrows ! refl refl refl refl refl ▸ reborrows ! refl refl refl refl refl ▸ address ! refl refl ▸ builds ! refl refl (tt, (tt, (record { fits = limited .is .1 }, tt))) ▸ reborrows ! refl refl refl refl refl ▸
-      lends-array ! node 12 15 l refl refl is tt most (λ ν γ.
-      let all = whole 8189 b ν γ l in
+      lends-array ! node 12 16 l refl refl is tt most (λ ν γ.
+      let all = whole 8192 b ν γ l in
       lends-front ! row all 13 k few refl (λ ν′ δ.
       let args : Args (answering .ks) = (cells, (n, (d, (m, (threshold, (forbidden, (layers, (sums, (rows, (gains, (frontOf all k ν′ δ, (cuts, tt)))))))))))) in
       calls 𝓤 H A W answering args (X, (n-fits, (d-fits, (m-fits, (t-fits, (F, (L, (S, (R, (G, ((length-take-le k l few, room k (limited .said)), (K, tt)))))))))))) tt ! 2 refl fm (known-tree args) refl refl refl (λ r ws ret.
       let (_, (_, (_, (_, (_, (_, (_, (sums′, (rows′, (gains′, (nodes′, (cuts′, _)))))))))))) = ws in
       let (same-sums, (same-rows, (same-gains, (_, (same-cuts, _))))) = ret .long in
-      let counts : Args (counting .ks) = (r, tt) in
       front-back ! row all 13 k nodes′ len refl (λ _.
       let l₂ = nodes′ ++ drop k l in
-      array-back ! node 12 15 l₂ refl refl (λ a₂ is₂.
-      calls 𝓤 H A W counting counts (ret .is, tt) tt ! 0 refl fm (known-counted counts) refl refl refl (λ count _ counted.
+      array-back ! node 12 16 l₂ refl refl (λ a₂ is₂.
       address ! refl refl ▸ builds ! refl refl (tt, (tt, (record { fits = most .0 }, tt))) ▸ reborrows ! refl refl refl refl refl ▸ reborrows ! refl refl refl refl refl ▸
-      lends-array ! node 14 15 l₂ refl refl is₂ tt most (λ ν₂ γ₂.
-      let all₂ = whole 8189 b ν₂ γ₂ l₂ in
+      lends-array ! node 14 16 l₂ refl refl is₂ tt most (λ ν₂ γ₂.
+      let all₂ = whole 8192 b ν₂ γ₂ l₂ in
       let len₂ = is₂ .1 .0 .1 in
-      let long : length (take 8189 l₂) ≡ 8189 = length-take-le 8189 l₂ (omega (arith, len₂)) in
-      shares-front ! row all₂ 15 8189 refl (λ ν₃ δ₃.
-      let tells : Args (telling .ks) = (firstOf all₂ 8189 ν₃ δ₃, (0, (count, (flat, (told, tt))))) in
-      calls 𝓤 H A W telling tells (subst (Room row) (sym long) most, (zero-fits, (counted .is, (P, (Q, tt))))) (omega (arith, long, counted .said)) ! 16 refl fm (known-flat tells) (rw long) refl refl (λ _ vs end.
-      front-unshared ! row all₂ 15 8189 δ₃ len₂ refl ▸ array-back ! node 14 15 l₂ refl refl (λ a₃ is₃.
-      copies ! refl refl ▸ returning ! refl refl (finishes 𝓤 H A W flattening xs r (tt, (tt, (tt, (tt, (tt, (tt, (tt, (sums′, (rows′, (gains′, (tt, (cuts′, (vs .1 .1 .1 .0, (vs .1 .1 .1 .1 .0, tt)))))))))))))) (ret .is)
-      (same-sums, (same-rows, (same-gains, (same-cuts, (end .long .0, (end .long .1 .0, tt)))))) tt))))))))))))))
+      let long : length (take 8192 l₂) ≡ 8192 = length-take-le 8192 l₂ (omega (arith, len₂)) in
+      shares-front ! row all₂ 15 8192 refl (λ ν₃ δ₃.
+      let tells : Args (telling .ks) = (firstOf all₂ 8192 ν₃ δ₃, (0, (k, (flat, (told, tt))))) in
+      calls 𝓤 H A W telling tells (subst (Room row) (sym long) most, (zero-fits, (limited .is, (P, (Q, tt))))) (omega (arith, long, limited .said)) ! 16 refl fm (known-flat tells) (rw long) refl refl (λ _ vs end.
+      front-unshared ! row all₂ 15 8192 δ₃ len₂ refl ▸ array-back ! node 14 16 l₂ refl refl (λ a₃ is₃.
+      copies ! refl refl ▸ returning ! refl refl (finishes 𝓤 H A W flattening xs r (tt, (tt, (tt, (tt, (tt, (tt, (tt, (sums′, (rows′, (gains′, (tt, (tt, (cuts′, (vs .1 .1 .1 .0, (vs .1 .1 .1 .1 .0, tt))))))))))))))) (ret .is)
+      (same-sums, (same-rows, (same-gains, (same-cuts, (end .long .0, (end .long .1 .0, tt)))))) tt)))))))))))))
 
   tree-flat-meets : (mem : Memory → SProp 𝓤) (run : Routine → Fun 𝓤) → Meets 𝓤 H A f.signature (WpFn 𝓤 H (𝓣 .C) (𝓣 .Λ) code.function) (f.spec 𝓤 H A mem run)
   tree-flat-meets mem run y =
@@ -120,5 +115,4 @@ tree-flat-spec 𝓤 H 𝓜 𝓖 𝓡 =
     (λ xs fr. unasked 𝓤 H (𝓖 .A) W blanking xs fr (cited 𝓤 H _ 𝓜 𝓡 code.env #blank blank-def.routine code.calls-binary-segmentation·node·Node·without-choice (blank-thm.met 𝓤 H 𝓜 𝓖 𝓡) (anew blanking xs fr)))
     (λ xs fr. unasked 𝓤 H (𝓖 .A) W limiting xs fr (cited 𝓤 H _ 𝓜 𝓡 code.env #least least-def.routine code.calls-flat·least (least-thm.met 𝓤 H 𝓜 𝓖 𝓡) (anew limiting xs fr)))
     (λ xs fr. known-each 𝓤 H (𝓖 .A) W answering xs (grown-says xs) (λ r ws said. said) (fmOf 𝓤 H (W .laws) 𝓣) #tree fr (cited 𝓤 H _ 𝓜 𝓡 code.env #tree tree-def.routine code.calls-changeforest·tree·binary-segmentation (tree-thm.met 𝓤 H 𝓜 𝓖 𝓡) (anew answering xs fr)))
-    (λ xs fr. unasked 𝓤 H (𝓖 .A) W counting xs fr (cited 𝓤 H _ 𝓜 𝓡 code.env #counted counted-def.routine code.calls-flat·counted (counted-thm.met 𝓤 H 𝓜 𝓖 𝓡) (anew counting xs fr)))
     (λ xs fr. cited 𝓤 H _ 𝓜 𝓡 code.env #nodes-flat nodes-flat-def.routine code.calls-flat·nodes-flat (nodes-flat-thm.met 𝓤 H 𝓜 𝓖 𝓡) (anew telling xs fr)) (𝓜 .mem) (𝓡 .run))

@@ -1,14 +1,14 @@
--- `replay::writing::numbers_end` is safe and ends. Assumes nothing.
+-- `replay::writing::numbers` is safe and ends. Assumes nothing.
 use Prim.Native.Nat.{_-_}
 use borrow.Author.Needs.{needs}
-use Rattle.replay.proofs.writing.numbers_end.Statement.{statement}
-use Rattle.replay.proofs.writing.numbers_end.Tie as tie
+use Rattle.replay.proofs.writing.numbers.Statement.{statement}
+use Rattle.replay.proofs.writing.numbers.Tie as tie
 
 abbrev Inv-loop : tie.InvT-loop
-Inv-loop out₀ waiting list count kept n now₀ i₀ out now i = Unit {0}
+Inv-loop out₀ waiting list count n now₀ i₀ out now i = Unit {0}
 
 abbrev μ-loop : tie.MeasureT-loop
-μ-loop out₀ waiting list count kept n now₀ i₀ out now i = n - i
+μ-loop out₀ waiting list count n now₀ i₀ out now i = n - i
 
 least-requires : tie.Need-least-requires Inv-loop μ-loop
 least-requires c κs = search needs
@@ -34,14 +34,11 @@ loop-less c = search needs
 loop-again : tie.Need-loop-again Inv-loop μ-loop
 loop-again c = search needs
 
-end-requires : tie.Need-end-requires Inv-loop μ-loop
-end-requires c κs = search needs
-
 returns : tie.Need-returns Inv-loop μ-loop
 returns c = search needs
 
-pub numbers-end-spec : {M : Type 1} → statement M
-numbers-end-spec =
+pub numbers-spec : {M : Type 1} → statement M
+numbers-spec =
     tie.close
     (tie.spec
     Inv-loop
@@ -54,5 +51,4 @@ numbers-end-spec =
     add-i
     loop-less
     loop-again
-    end-requires
     returns)
