@@ -2,9 +2,9 @@
 // kind reads its line by one method after another. After a part that isn't there `next` is NOWHERE, and nothing more is read.
 use crate::fields;
 use crate::fields::Number;
-use crate::lent::Short;
-use crate::lent::minus;
-use crate::lent::plus;
+use crate::memory::Short;
+use crate::memory::minus;
+use crate::memory::plus;
 use crate::writing::TOO_LARGE;
 use crate::writing::UNKNOWN;
 

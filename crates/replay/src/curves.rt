@@ -3,10 +3,10 @@ use crate::cases::CELLS;
 use crate::cases::CURVE;
 use crate::cases::CURVES;
 use crate::cases::Case;
-use crate::lent;
-use crate::lent::OUTPUT;
-use crate::lent::least;
-use crate::lent::value_in;
+use crate::memory;
+use crate::memory::OUTPUT;
+use crate::memory::least;
+use crate::memory::value_in;
 use crate::writing;
 use crate::writing::OUT;
 use changeforest::curves;
@@ -20,10 +20,10 @@ pub fn read_curve(case: Case, line: &[u8], values: &mut [f64]) -> Case {
 }
 
 pub fn curve(case: Case, values: &[f64], out: &mut [u8; OUT], waiting: usize) -> usize {
-    let mut gains = [lent::VALUE; OUTPUT];
+    let mut gains = [memory::VALUE; OUTPUT];
     let end = values.len();
     let asked = least(case.before, end);
-    let length = lent::length(asked, OUTPUT, case.short, 1);
+    let length = memory::length(asked, OUTPUT, case.short, 1);
     let no = curves::gain_from_likelihoods(
         &values[0..asked],
         &values[asked..end],

@@ -1,7 +1,7 @@
 // A line's fields, parted by single blanks: numbers, values, words, lists. A field is named by the place where it begins. Reading it
 // tells where the next one begins, one past the line's end after the last; NOWHERE where the field is missing or isn't what is read.
-use crate::lent::most;
-use crate::lent::plus;
+use crate::memory::most;
+use crate::memory::plus;
 use bytes::scan;
 
 pub const NOWHERE: usize = 18446744073709551615;

@@ -6,7 +6,7 @@
 mod cases;
 mod fields;
 mod kinds;
-mod lent;
+mod memory;
 mod reading;
 mod writing;
 

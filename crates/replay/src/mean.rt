@@ -2,7 +2,7 @@
 use crate::cases::CELLS;
 use crate::cases::CURVE;
 use crate::cases::Case;
-use crate::lent;
+use crate::memory;
 use crate::writing;
 use crate::writing::OUT;
 use changeforest::mean;
@@ -19,8 +19,8 @@ pub fn read_cand(case: Case, line: &[u8], numbers: &mut [usize]) -> Case {
 }
 
 pub fn cand(case: Case, forbidden: &[usize], out: &mut [u8; OUT], waiting: usize) -> usize {
-    let mut rows = [lent::NUMBER; CANDIDATES];
-    let length = lent::length(rows_asked(case), CANDIDATES, case.short, 1);
+    let mut rows = [memory::NUMBER; CANDIDATES];
+    let length = memory::length(rows_asked(case), CANDIDATES, case.short, 1);
     let answer = mean::split_candidates(
         case.n,
         case.m,
@@ -34,8 +34,8 @@ pub fn cand(case: Case, forbidden: &[usize], out: &mut [u8; OUT], waiting: usize
 
 // stop-start-2m, and 0 if that is negative.
 fn rows_asked(case: Case) -> usize {
-    let length = lent::minus(case.stop, case.start);
-    lent::minus(lent::minus(length, case.m), case.m)
+    let length = memory::minus(case.stop, case.start);
+    memory::minus(memory::minus(length, case.m), case.m)
 }
 
 fn write_cand(
@@ -47,12 +47,12 @@ fn write_cand(
 ) -> usize {
     match answer {
         Count::Written(count) => {
-            let kept = lent::kept_numbers(rows, count, length);
+            let kept = memory::kept_numbers(rows, count, length);
             let waiting = writing::ok_number(out, waiting, count);
             writing::numbers_end(out, waiting, rows, count, kept)
         }
         Count::Refused(no) => {
-            writing::refused(out, waiting, no, lent::kept_numbers(rows, 0, length))
+            writing::refused(out, waiting, no, memory::kept_numbers(rows, 0, length))
         }
     }
 }
@@ -67,9 +67,9 @@ pub fn read_gain(case: Case, line: &[u8], values: &mut [f64]) -> Case {
 }
 
 pub fn gain(case: Case, cells: &[f64], out: &mut [u8; OUT], waiting: usize) -> usize {
-    let mut sums = [lent::VALUE; CELLS];
-    let asked = lent::sums_asked(case.n, case.d);
-    let length = lent::length(asked, CELLS, case.short, 1);
+    let mut sums = [memory::VALUE; CELLS];
+    let asked = memory::sums_asked(case.n, case.d);
+    let length = memory::length(asked, CELLS, case.short, 1);
     let answer = mean::gain(
         cells,
         case.n,
@@ -92,7 +92,7 @@ fn write_gain(
 ) -> usize {
     match answer {
         Gained::Of(gain) => {
-            let kept = lent::kept_values(sums, asked, length);
+            let kept = memory::kept_values(sums, asked, length);
             let waiting = writing::ok_value(out, waiting, gain);
             let waiting = writing::word(out, waiting, b" sums");
             writing::values_end(out, waiting, sums, asked, kept)
@@ -110,8 +110,8 @@ fn refuse_sums(
     out: &mut [u8; OUT],
     waiting: usize,
 ) -> usize {
-    let kept = lent::kept_values(sums, 0, length);
-    writing::refused(out, waiting, lent::refusal(no, asked, CELLS), kept)
+    let kept = memory::kept_values(sums, 0, length);
+    writing::refused(out, waiting, memory::refusal(no, asked, CELLS), kept)
 }
 
 // N D M F START STOP CELLS
@@ -129,9 +129,9 @@ pub fn search(
     out: &mut [u8; OUT],
     waiting: usize,
 ) -> usize {
-    let mut sums = [lent::VALUE; CELLS];
-    let asked = lent::sums_asked(case.n, case.d);
-    let length = lent::length(asked, CELLS, case.short, 1);
+    let mut sums = [memory::VALUE; CELLS];
+    let asked = memory::sums_asked(case.n, case.d);
+    let length = memory::length(asked, CELLS, case.short, 1);
     let answer = mean::find_best_split(
         cells,
         case.n,
@@ -148,10 +148,10 @@ pub fn search(
 
 // Whether the sums are those that `gain` leaves for the same matrix.
 pub fn sums_left(cells: &[f64], n: usize, d: usize, sums: &[f64; CELLS]) -> bool {
-    let mut others = [lent::VALUE; CELLS];
+    let mut others = [memory::VALUE; CELLS];
     let row = Position(0);
     let _gained = mean::gain(cells, n, d, row, row, row, &mut others);
-    lent::same_values(sums, &others, lent::sums_asked(n, d))
+    memory::same_values(sums, &others, memory::sums_asked(n, d))
 }
 
 fn write_search(
@@ -165,7 +165,7 @@ fn write_search(
 ) -> usize {
     match answer {
         BestSplit::Found(split, gain) => {
-            let kept = lent::kept_values(sums, asked, length);
+            let kept = memory::kept_values(sums, asked, length);
             writing::found(out, waiting, split.0, gain, left & kept)
         }
         BestSplit::Refused(no) => refuse_sums(no, asked, sums, length, out, waiting),

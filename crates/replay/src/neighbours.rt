@@ -2,9 +2,9 @@
 use crate::cases::CELLS;
 use crate::cases::CURVE;
 use crate::cases::Case;
-use crate::lent;
-use crate::lent::OUTPUT;
 use crate::mean;
+use crate::memory;
+use crate::memory::OUTPUT;
 use crate::writing;
 use crate::writing::OUT;
 use changeforest::neighbours;
@@ -23,10 +23,10 @@ pub fn read_order(case: Case, line: &[u8], values: &mut [f64]) -> Case {
 }
 
 pub fn order(case: Case, cells: &[f64], out: &mut [u8; OUT], waiting: usize) -> usize {
-    let mut ordering = [lent::PLACE; ORDERING];
-    let mut distances = [lent::VALUE; DISTANCES];
-    let places = lent::length(ordering_asked(case), ORDERING, case.short, 1);
-    let values = lent::length(case.n, DISTANCES, case.short, 2);
+    let mut ordering = [memory::PLACE; ORDERING];
+    let mut distances = [memory::VALUE; DISTANCES];
+    let places = memory::length(ordering_asked(case), ORDERING, case.short, 1);
+    let values = memory::length(case.n, DISTANCES, case.short, 2);
     let no = neighbours::ordering(
         cells,
         case.n,
@@ -43,7 +43,7 @@ pub fn order(case: Case, cells: &[f64], out: &mut [u8; OUT], waiting: usize) -> 
 
 // "n*n u32".
 fn ordering_asked(case: Case) -> usize {
-    lent::times(case.n, case.n)
+    memory::times(case.n, case.n)
 }
 
 // Whether the ordering and the distances beyond those told are as they were.
@@ -55,14 +55,14 @@ fn kept_beyond(
     distances: &[f64; DISTANCES],
     values: usize,
 ) -> bool {
-    let told = lent::told(no, ordering_asked(case));
-    let kept = lent::kept_places(ordering, told, places);
-    kept & lent::kept_values(distances, lent::told(no, case.n), values)
+    let told = memory::told(no, ordering_asked(case));
+    let kept = memory::kept_places(ordering, told, places);
+    kept & memory::kept_values(distances, memory::told(no, case.n), values)
 }
 
 // The number of a refusal of a call that takes the ordering's room.
 fn refusal(case: Case, no: u32) -> u32 {
-    lent::refusal(no, ordering_asked(case), ORDERING)
+    memory::refusal(no, ordering_asked(case), ORDERING)
 }
 
 fn write_order(
@@ -85,13 +85,13 @@ pub fn read_knn(case: Case, line: &[u8], values: &mut [f64]) -> Case {
 }
 
 pub fn knn(case: Case, cells: &[f64], out: &mut [u8; OUT], waiting: usize) -> usize {
-    let mut ordering = [lent::PLACE; ORDERING];
-    let mut distances = [lent::VALUE; DISTANCES];
-    let mut predictions = [lent::VALUE; OUTPUT];
-    let asked = lent::minus(case.stop, case.start);
-    let places = lent::length(ordering_asked(case), ORDERING, case.short, 1);
-    let values = lent::length(case.n, DISTANCES, case.short, 2);
-    let length = lent::length(asked, PREDICTIONS, case.short, 3);
+    let mut ordering = [memory::PLACE; ORDERING];
+    let mut distances = [memory::VALUE; DISTANCES];
+    let mut predictions = [memory::VALUE; OUTPUT];
+    let asked = memory::minus(case.stop, case.start);
+    let places = memory::length(ordering_asked(case), ORDERING, case.short, 1);
+    let values = memory::length(case.n, DISTANCES, case.short, 2);
+    let length = memory::length(asked, PREDICTIONS, case.short, 3);
     let no = neighbours::predict(
         cells,
         case.n,
@@ -120,9 +120,9 @@ fn ordering_left(
     if no != 0 {
         return true;
     }
-    let mut others = [lent::PLACE; ORDERING];
-    let mut apart = [lent::VALUE; DISTANCES];
+    let mut others = [memory::PLACE; ORDERING];
+    let mut apart = [memory::VALUE; DISTANCES];
     let _no = neighbours::ordering(cells, case.n, case.d, &mut others, &mut apart);
-    let same = lent::same_places(ordering, &others, ordering_asked(case));
-    same & lent::same_values(distances, &apart, case.n)
+    let same = memory::same_places(ordering, &others, ordering_asked(case));
+    same & memory::same_values(distances, &apart, case.n)
 }

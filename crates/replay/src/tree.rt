@@ -2,13 +2,13 @@
 use crate::cases::CELLS;
 use crate::cases::Case;
 use crate::cases::LAYERS;
-use crate::lent;
-use crate::lent::NUMBER;
-use crate::lent::Short;
-use crate::lent::least;
-use crate::lent::number_in;
-use crate::lent::value_in;
 use crate::mean;
+use crate::memory;
+use crate::memory::NUMBER;
+use crate::memory::Short;
+use crate::memory::least;
+use crate::memory::number_in;
+use crate::memory::value_in;
 use crate::writing;
 use crate::writing::OUT;
 use changeforest::lengths;
@@ -52,12 +52,12 @@ pub fn tree(
     out: &mut [u8; OUT],
     waiting: usize,
 ) -> usize {
-    let mut sums = [lent::VALUE; CELLS];
+    let mut sums = [memory::VALUE; CELLS];
     let mut rows = [NUMBER; ROWS];
-    let mut gains = [lent::VALUE; RECORDS];
+    let mut gains = [memory::VALUE; RECORDS];
     let mut cuts = [NUMBER; CUTS];
     let mut nodes = [NUMBER; FLAT];
-    let mut node_gains = [lent::VALUE; ROOM];
+    let mut node_gains = [memory::VALUE; ROOM];
     let end = values.len();
     let layered = least(case.before, end);
     let layers = &values[0..layered];
@@ -103,10 +103,10 @@ pub fn tree(
 fn room_asked(case: Case, layers: &[f64]) -> Room {
     let nodes = nodes_asked(case.n, case.m);
     Room {
-        sums: lent::sums_asked(case.n, case.d),
-        records: lent::plus(segments(layers), nodes),
+        sums: memory::sums_asked(case.n, case.d),
+        records: memory::plus(segments(layers), nodes),
         nodes,
-        cuts: lent::minus(nodes, 1) / 2,
+        cuts: memory::minus(nodes, 1) / 2,
     }
 }
 
@@ -115,8 +115,8 @@ fn nodes_asked(n: usize, m: usize) -> usize {
     if m == 0 {
         return usize::MAX;
     }
-    let parts = lent::minus(n, 1) / m;
-    lent::most(1, lent::minus(lent::times(2, parts), 1))
+    let parts = memory::minus(n, 1) / m;
+    memory::most(1, memory::minus(memory::times(2, parts), 1))
 }
 
 // "T the layers' counts summed".
@@ -124,7 +124,7 @@ fn segments(layers: &[f64]) -> usize {
     let mut total = 0;
     let mut i = 0;
     while i < layers.len() {
-        total = lent::plus(total, segments_of(layers[i]));
+        total = memory::plus(total, segments_of(layers[i]));
         i += 1;
     }
     total
@@ -133,7 +133,7 @@ fn segments(layers: &[f64]) -> usize {
 // "count = 2*ceil(f32(1/v)) - 1".
 fn segments_of(layer: f64) -> usize {
     let whole = rounded_up(lengths::nearest_f32(1.0 / layer));
-    lent::minus(lent::times(2, whole), 1)
+    memory::minus(memory::times(2, whole), 1)
 }
 
 // The least whole number that isn't below x; no layer's is more than 4,096.
@@ -154,10 +154,10 @@ fn room_lent(asked: Room, short: Short) -> Room
     ensures { λ r. ⌜ (r .sums ≤ 16384) × ((r .records ≤ 16384) × (r .cuts ≤ 4097)) ⌝ }
 {
     Room {
-        sums: lent::length(asked.sums, CELLS, short, 1),
-        records: lent::length(asked.records, RECORDS, short, 2),
-        nodes: lent::length(asked.nodes, ROOM, short, 3),
-        cuts: lent::length(asked.cuts, CUTS, short, 4),
+        sums: memory::length(asked.sums, CELLS, short, 1),
+        records: memory::length(asked.records, RECORDS, short, 2),
+        nodes: memory::length(asked.nodes, ROOM, short, 3),
+        cuts: memory::length(asked.cuts, CUTS, short, 4),
     }
 }
 
@@ -180,20 +180,20 @@ fn room_told(grown: Grown, asked: Room) -> Room {
 
 // No admitted run asks more nodes or cuts than there is room for.
 fn refusal(no: u32, asked: Room) -> u32 {
-    let no = lent::refusal(no, asked.sums, CELLS);
-    lent::refusal(no, asked.records, RECORDS)
+    let no = memory::refusal(no, asked.sums, CELLS);
+    memory::refusal(no, asked.records, RECORDS)
 }
 
 fn kept_lists(told: Room, lent: Room, sums: &[f64; CELLS], cuts: &[usize; CUTS]) -> bool {
-    let kept = lent::kept_values(sums, told.sums, lent.sums);
-    kept & lent::kept_numbers(cuts, told.cuts, lent.cuts)
+    let kept = memory::kept_values(sums, told.sums, lent.sums);
+    kept & memory::kept_numbers(cuts, told.cuts, lent.cuts)
 }
 
 fn kept_records(told: Room, lent: Room, rows: &[usize; ROWS], gains: &[f64; RECORDS]) -> bool {
-    let from = lent::times(3, told.records);
-    let to = lent::times(3, lent.records);
-    let kept = lent::kept_numbers(rows, from, to);
-    kept & lent::kept_values(gains, told.records, lent.records)
+    let from = memory::times(3, told.records);
+    let to = memory::times(3, lent.records);
+    let kept = memory::kept_numbers(rows, from, to);
+    kept & memory::kept_values(gains, told.records, lent.records)
 }
 
 fn kept_nodes(told: Room, lent: Room, nodes: &[usize; FLAT], gains: &[f64; ROOM]) -> bool {
@@ -224,7 +224,7 @@ fn is_blank(nodes: &[usize], gains: &[f64], at: usize) -> bool {
 
 // Number i of the node at a place.
 fn field(nodes: &[usize], at: usize, i: usize) -> usize {
-    number_in(nodes, lent::plus(lent::times(at, NUMBERS), i))
+    number_in(nodes, memory::plus(memory::times(at, NUMBERS), i))
 }
 
 fn write_nodes(
@@ -310,9 +310,19 @@ fn write_record(
     gains: &[f64],
     at: usize,
 ) -> usize {
-    let first = lent::times(3, at);
+    let first = memory::times(3, at);
     let waiting = writing::number(out, waiting, number_in(rows, first));
-    let waiting = writing::number_after(out, waiting, b',', number_in(rows, lent::plus(first, 1)));
-    let waiting = writing::number_after(out, waiting, b',', number_in(rows, lent::plus(first, 2)));
+    let waiting = writing::number_after(
+        out,
+        waiting,
+        b',',
+        number_in(rows, memory::plus(first, 1)),
+    );
+    let waiting = writing::number_after(
+        out,
+        waiting,
+        b',',
+        number_in(rows, memory::plus(first, 2)),
+    );
     writing::value_after(out, waiting, b',', value_in(gains, at))
 }

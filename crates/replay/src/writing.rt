@@ -1,8 +1,8 @@
 // The answers. Their bytes wait in a buffer, which is written out when it is full. Each function here adds to it: it takes how many
 // bytes wait, and answers how many wait then.
-use crate::lent;
-use crate::lent::OUTPUT;
-use crate::lent::least;
+use crate::memory;
+use crate::memory::OUTPUT;
+use crate::memory::least;
 use libc::STDOUT_FILENO;
 
 pub const OUT: usize = 65536;
@@ -176,7 +176,7 @@ pub fn output(
     length: usize,
     others: bool,
 ) -> usize {
-    let kept = others & lent::kept_values(list, lent::told(no, asked), length);
+    let kept = others & memory::kept_values(list, memory::told(no, asked), length);
     if no != 0 {
         return refused(out, waiting, no, kept);
     }

@@ -3,8 +3,8 @@ use Prim.Native.Nat.{_<_}
 use native.Mathlib.Nat.{le-div-iff-mul-le}
 use native.Mathlib.Omega.{arith}
 use borrow.Author.Needs.{needs}
-use Rattle.replay.proofs.lent.times.Statement.{statement}
-use Rattle.replay.proofs.lent.times.Tie as tie
+use Rattle.replay.proofs.memory.times.Statement.{statement}
+use Rattle.replay.proofs.memory.times.Tie as tie
 
 returns : tie.Need-returns
 returns c = search needs

@@ -1,8 +1,8 @@
--- `replay::lent::same_places` is safe and ends. Assumes nothing.
+-- `replay::lent::same_values` is safe and ends. Assumes nothing.
 use Prim.Native.Nat.{_-_}
 use borrow.Author.Needs.{needs}
-use Rattle.replay.proofs.lent.same_places.Statement.{statement}
-use Rattle.replay.proofs.lent.same_places.Tie as tie
+use Rattle.replay.proofs.memory.same_values.Statement.{statement}
+use Rattle.replay.proofs.memory.same_values.Tie as tie
 
 abbrev Inv-loop : tie.InvT-loop
 Inv-loop a b count i₀ i = Unit {0}
@@ -46,8 +46,8 @@ loop-again c = search needs
 returns-4 : tie.Need-returns-4 Inv-loop μ-loop
 returns-4 c = search needs
 
-pub same-places-spec : {M : Type 1} → statement M
-same-places-spec =
+pub same-values-spec : {M : Type 1} → statement M
+same-values-spec =
     tie.close
     (tie.spec
     Inv-loop

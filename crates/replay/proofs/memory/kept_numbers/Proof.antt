@@ -1,8 +1,8 @@
--- `replay::lent::kept_places` is safe and ends. Assumes nothing.
+-- `replay::lent::kept_numbers` is safe and ends. Assumes nothing.
 use Prim.Native.Nat.{_-_}
 use borrow.Author.Needs.{needs}
-use Rattle.replay.proofs.lent.kept_places.Statement.{statement}
-use Rattle.replay.proofs.lent.kept_places.Tie as tie
+use Rattle.replay.proofs.memory.kept_numbers.Statement.{statement}
+use Rattle.replay.proofs.memory.kept_numbers.Tie as tie
 
 abbrev Inv-loop : tie.InvT-loop
 Inv-loop lent from to end i₀ i = Unit {0}
@@ -37,8 +37,8 @@ loop-again c = search needs
 returns-2 : tie.Need-returns-2 Inv-loop μ-loop
 returns-2 c = search needs
 
-pub kept-places-spec : {M : Type 1} → statement M
-kept-places-spec =
+pub kept-numbers-spec : {M : Type 1} → statement M
+kept-numbers-spec =
     tie.close
     (tie.spec
     Inv-loop
