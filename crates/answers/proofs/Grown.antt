@@ -1,7 +1,7 @@
 -- What the tree of a deck leaves in lent memory, and the text that is written from it. Assumes nothing.
 use mathlib.Core.Path.{_≡_, refl}
 use mathlib.Core.List.{List, [], _∷_}
-use Prim.Native.Nat.{ℕ, zero, suc, _+_, _≤_}
+use Prim.Native.Nat.{ℕ, zero, suc, _+_, _*_, _≤_}
 use native.Mathlib.Omega.{arith}
 use borrow.Author.Tests.{ltb-false}
 use lib.Ieee.{Float, ofBits, binary64}
@@ -13,42 +13,35 @@ use Rattle.scope.specs.Grid.{Record}
 use Rattle.scope.specs.Layers.{seeded, layersTotal, stored}
 use Rattle.scope.specs.Text.{bytes, decimal, line}
 use Rattle.scope.specs.Tree.{Run, Tree, seedRecords, treeOf, recordsOf, nodeCount, cuts, sheet, mostNodes}
-use Rattle.scope.specs.Calls.{Room, countsOf, treeTests, treeRefusal, treeAnswer, treeRecords, treeCuts}
+use Rattle.scope.specs.Calls.{countsOf, treeTests, treeRefusal, treeCall}
 use Rattle.scope.specs.Program.{sheetText, judgedText}
 use Rattle.control.proofs.Sizes.{matrix, inside}
 use Rattle.control.proofs.Clean.{passed}
-use Rattle.segmentation.specs.Flat.{flatRows, gainsOf, recordsIn}
-use Rattle.segmentation.proofs.Flat.{records-told}
-use Rattle.binary_segmentation.proofs.Demand.{demand, records-fit}
+use Rattle.stored.specs.Flat.{flatRows, gainsOf, recordsIn}
+use Rattle.stored.proofs.Flat.{records-told}
+use Rattle.demand.proofs.Demand.{demand, records-fit}
 use Rattle.line.specs.declared.Given.{Given}
 use Rattle.deck.specs.Limits.{givenRefusal}
-use Rattle.answers.specs.Answered.{cellsHeld, pairsHeld, runHeld, lent, treeNumber, Grew, givenText, sheetOf}
-use Rattle.changeforest.specs.Answers.{grownOf, nodeRoom, roomOf}
-use Rattle.changeforest.specs.declared.tree.Grown.{Grown}
-use Rattle.changeforest.specs.declared.tree.Grown.the-variants as grown
+use Rattle.answers.specs.Answered.{matrixHeld, settingsHeld, runHeld, lent, treeNumber, Grew, givenText, sheetOf}
+use Rattle.entry_tree.specs.Answers.{grownOf}
+use Rattle.entry_tree.specs.Left.{PointSlices, PointsLeft}
+use Rattle.entry_tree.specs.declared.Grown.{Grown}
+use Rattle.entry_tree.specs.declared.Grown.the-variants as grown
 use Rattle.binary_segmentation.specs.declared.tree.Counts.{Counts as Counted}
 use Rattle.answers.proofs.Lookup.{lines-are}
 
--- the room that the types give
-pub room-is : (sums : List Float) (rows : List ℕ) (gains : List Float) (cuts : List ℕ) → length sums ≡ 2112 → length rows ≡ 1527 → length gains ≡ 509 → length cuts ≡ 254
-    → roomOf sums rows gains nodeRoom (length cuts) ≡ lent
-room-is sums rows gains cuts a b c d = rw (a, b, c, d)
-
--- what the call for the tree ensures is what `Grew` says
-module _ (g : Given) (cells : List Float) (forbidden : List ℕ) (threshold : Float) (sums : List Float) (rows : List ℕ) (gains : List Float) (cuts : List ℕ) where
-  abbrev room : Room
-  room = roomOf sums rows gains nodeRoom (length cuts)
-
-  pub grew : (rows′ : List ℕ) (gains′ : List Float) (cuts′ : List ℕ) (r : Grown)
-      → threshold ≡ ofBits binary64 (g .threshold)
-      → room ≡ lent
-      → r ≡ grownOf (treeAnswer (cellsHeld g cells) (g .n) (g .d) (g .m) threshold (pairsHeld g forbidden) [] room)
-      → rows′ ≡ holding (flatRows (treeRecords (cellsHeld g cells) (g .n) (g .d) (g .m) threshold (pairsHeld g forbidden) [] room)) rows
-      → gains′ ≡ holding (gainsOf (treeRecords (cellsHeld g cells) (g .n) (g .d) (g .m) threshold (pairsHeld g forbidden) [] room)) gains
-      → cuts′ ≡ holding (treeCuts (cellsHeld g cells) (g .n) (g .d) (g .m) threshold (pairsHeld g forbidden) [] room) cuts
-      → Grew g cells forbidden rows gains cuts rows′ gains′ cuts′ r
-  unfolding treeNumber treeAnswer treeRecords treeCuts
-  grew rows′ gains′ cuts′ r t e a b c d = record { answer-is = rw (t, e) at a; rows-are = rw (t, e) at b; gains-are = rw (t, e) at c; cuts-are = rw (t, e) at d }
+-- what the call for the tree ensures, in the room that the types give, is what `Grew` says
+module _ (g : Given) (cells : List Float) (forbidden : List ℕ) (threshold : Float) (is : threshold ≡ ofBits binary64 (g .threshold)) (before after : PointSlices) (r : Grown)
+    (left : PointsLeft (matrixHeld g cells) (record { shortest = record { m = g .m }; threshold = threshold; forbidden = take (2 * g .pairs) forbidden; layers = [] }) r before after) where
+  pub grew : length (before .sums) ≡ 2112 → length (before .rows) ≡ 1527 → length (before .gains) ≡ 509 → length (before .cuts) ≡ 254
+      → Grew g cells forbidden (before .rows) (before .gains) (before .cuts) (after .rows) (after .gains) (after .cuts) r
+  unfolding treeNumber treeCall
+  grew a b c d = record {
+    answer-is = rw (is, a, b, c, d) at (left .answer);
+    rows-are = rw (is, a, b, c, d) at (left .rows);
+    gains-are = rw (is, a, b, c, d) at (left .gains);
+    cuts-are = rw (is, a, b, c, d) at (left .cuts);
+  }
 
 -- ---- the text
 sheet-long : (t : Tree) → length (sheet t) ≡ length (cuts t)
@@ -94,23 +87,23 @@ module _ (g : Given) (cells : List Float) (forbidden : List ℕ) (judged : given
     record Clean : Type 0 where
       rows : 1 ≤ g .n
       least : 1 ≤ g .m
-      nodes : mostNodes (g .n) (g .m) ≤ 509
+      nodes : mostNodes (g .n) (record { m = g .m }) ≤ 509
 
     clean : Clean
     unfolding treeNumber treeRefusal layersTotal
     clean =
-        let p = passed (treeTests (cellsHeld g cells) (g .n) (g .d) (g .m) (ofBits binary64 (g .threshold)) (pairsHeld g forbidden) [] lent) tt free in
+        let p = passed (treeTests (record { matrix = matrixHeld g cells; settings = settingsHeld g forbidden; room = lent })) tt free in
         record {
-          rows = matrix 4096 (cellsHeld g cells) (g .n) (g .d) (p .0) .rows .0;
+          rows = matrix 4096 (matrixHeld g cells .cells) (g .n) (g .d) (p .0) .rows .0;
           least = inside 4096 (g .m) (p .1 .0) .0;
-          nodes = let h = ltb-false 509 (0 + mostNodes (g .n) (g .m)) (p .1 .1 .1 .1 .1 .1 .1 .0) in omega arith;
+          nodes = let h = ltb-false 509 (0 + mostNodes (g .n) (record { m = g .m })) (p .1 .1 .1 .1 .1 .1 .1 .0) in omega arith;
         }
 
     few-records : length (recordsOf q) ≤ 509
     unfolding layersTotal
     few-records =
         let w = clean in
-        let h : length (recordsOf q) ≤ 0 + mostNodes (g .n) (g .m) = records-fit (cellsHeld g cells) (g .n) (g .d) (g .m) (ofBits binary64 (g .threshold)) (pairsHeld g forbidden) [] (w .least) (w .rows) in
+        let h : length (recordsOf q) ≤ 0 + mostNodes (g .n) (record { m = g .m }) = records-fit (matrixHeld g cells) (settingsHeld g forbidden) (w .least) (w .rows) in
         omega (arith, w .nodes)
 
     few-cuts : length (sheet (treeOf q)) ≤ 254

@@ -18,7 +18,8 @@ use Rattle.scope.specs.Refusals.{test, outside, mostColumns, wellPaired, wrongM
 use Rattle.scope.specs.Layers.{layersTotal}
 use Rattle.scope.specs.Tree.{mostNodes}
 use Rattle.scope.specs.Calls.{treeRefusal}
-use Rattle.scope.specs.Program.{Deck, deckTests, deckRefusal, wrongDeck, wrongPairs, isReading}
+use Rattle.scope.specs.Asked.{Shortest}
+use Rattle.scope.specs.Program.{Deck, deckTests, deckRefusal, wrongDeck, wrongPairs, isReading, deckMatrix, deckSettings}
 use Rattle.scope.proofs.Members.{first-of, second-of}
 use Rattle.control.proofs.Sizes.{neither, inside}
 use Rattle.control.proofs.Clean.{passed}
@@ -48,7 +49,7 @@ pub record GivenClean (g : Given) : Type 0 where
 pub given-clean : (g : Given) (forbidden : List ℕ) → givenRefusal g forbidden ≡ 0 → GivenClean g
 unfolding givenRefusal wrongGiven wrongHeld
 given-clean g forbidden e =
-    let p = passed (test (wrongGiven g) 1 ∷ no2 (g .m) ∷ no3 (ofBits binary64 (g .threshold)) ∷ test (g .wide) 4 ∷ test (wrongHeld (g .pairs) forbidden) 5 ∷ []) tt e in
+    let p = passed (test (wrongGiven g) 1 ∷ no2 (record { m = g .m }) ∷ no3 (ofBits binary64 (g .threshold)) ∷ test (g .wide) 4 ∷ test (wrongHeld (g .pairs) forbidden) 5 ∷ []) tt e in
     let held = neither (ltb 64 (g .pairs)) (not (wellPaired (take (2 * g .pairs) forbidden))) (p .1 .1 .1 .1 .0) in
     record { sizes = sized (g .n) (g .d) (g .cells) (p .0); pairs = ltb-false 64 (g .pairs) (held .0) }
 
@@ -96,12 +97,15 @@ within : (most v : ℕ) → 1 ≤ v → v ≤ most → outside most v ≡ false
 unfolding outside
 within most v l h = rw (le-ltb v 1 l, le-ltb most v h)
 
-few-nodes : (n m : ℕ) → n ≤ 256 → mostNodes n m ≤ 509
-few-nodes n m h = omega (arith, div-le-self (n - 1) m)
+few-nodes : (n : ℕ) (short : Shortest) → n ≤ 256 → mostNodes n short ≤ 509
+few-nodes n short h = omega (arith, div-le-self (n - 1) (short .m))
 
 module _ (deck : Deck) (clean : DeckClean deck) where
   abbrev values : List Float
-  values = map (ofInt binary64) (deck .cells)
+  values = deckMatrix deck .cells
+
+  abbrev most : ℕ
+  most = mostNodes (deck .n) (deckSettings deck .shortest)
 
   right-matrix : wrongMatrix 4096 values (deck .n) (deck .d) ≡ false
   unfolding wrongMatrix
@@ -109,10 +113,10 @@ module _ (deck : Deck) (clean : DeckClean deck) where
       rw (within 4096 (deck .n) (clean .sizes .rows .0) (omega arith), within 64 (deck .d) (clean .sizes .columns .0) (clean .sizes .columns .1), eq-eqb (length values) (deck .n * deck .d) (length-map (deck .cells) (ofInt binary64) ∙ clean .sizes .filled))
 
   -- what the deck's own limits leave, the tree takes
-  pub tree-clean : treeRefusal values (deck .n) (deck .d) (deck .m) (ofBits binary64 (deck .threshold)) (deck .forbidden) [] lent ≡ 0
+  pub tree-clean : treeRefusal (record { matrix = deckMatrix deck; settings = deckSettings deck; room = lent }) ≡ 0
   unfolding treeRefusal wrongLayers layersTotal every
   tree-clean =
-      let nodes = few-nodes (deck .n) (deck .m) (clean .sizes .rows .1) in
+      let nodes = few-nodes (deck .n) (deckSettings deck .shortest) (clean .sizes .rows .1) in
       rw (
         right-matrix,
         within 4096 (deck .m) (clean .length-fits .0) (clean .length-fits .1),
@@ -120,7 +124,7 @@ module _ (deck : Deck) (clean : DeckClean deck) where
         readings-finite (deck .cells) (clean .narrow),
         clean .paired,
         le-ltb 2112 ((deck .n + 1) * deck .d) (omega (arith, add-mul (deck .n) 1 (deck .d), clean .sizes .size, clean .sizes .columns .1)),
-        le-ltb 509 (0 + mostNodes (deck .n) (deck .m)) (omega arith),
-        le-ltb 8189 (mostNodes (deck .n) (deck .m)) (omega arith),
-        le-ltb 254 ((mostNodes (deck .n) (deck .m) - 1) / 2) (omega arith),
+        le-ltb 509 (0 + most) (omega arith),
+        le-ltb 8189 most (omega arith),
+        le-ltb 254 ((most - 1) / 2) (omega arith),
       )

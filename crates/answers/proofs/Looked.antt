@@ -9,8 +9,8 @@ use lib.Ieee.{Float}
 use lib.ListN.{length, take, getD}
 use lib.Seq.{take-suc, take-all}
 use Rattle.scope.specs.Grid.{Record}
-use Rattle.segmentation.specs.Flat.{recordAt, recordsIn}
-use Rattle.segmentation.proofs.Chosen.{left, left-all, left-none, left-next}
+use Rattle.stored.specs.Flat.{recordAt, recordsIn}
+use Rattle.stored.proofs.Chosen.{left, left-all, left-none, left-next}
 use Rattle.report.specs.Written.{Written}
 use Rattle.optimizer.specs.Records.{toRecord}
 use Rattle.optimizer.specs.declared.optimizer_result.GainRecord.{GainRecord}

@@ -13,12 +13,12 @@ use Rattle.scope.specs.Grid.{Record, best, blank, trial, trials}
 use Rattle.scope.specs.Layers.{one}
 use Rattle.scope.specs.Tree.{Run, direct, seedRecords, inside, choice, chosen, cut, Tree, cuts, sheet, treeOf, recordsOf}
 use Rattle.scope.specs.Program.{cutLines}
-use Rattle.binary_segmentation.specs.Reached.{ruling}
-use Rattle.binary_segmentation.specs.Grows.{Grows, asLeaf, asNode, directs}
+use Rattle.demand.specs.Reached.{ruling}
+use Rattle.demand.specs.Grows.{Grows, asLeaf, asNode, directs}
 use Rattle.scope.proofs.Greatest.{first-one}
-use Rattle.binary_segmentation.proofs.Records.{allowed, direct-first, one-found, rows}
-use Rattle.binary_segmentation.proofs.Cut.{cut-choice, cut-far}
-use Rattle.binary_segmentation.proofs.Made.{grown-grows, grown-made}
+use Rattle.demand.proofs.Records.{allowed, direct-first, one-found, rows}
+use Rattle.demand.proofs.Cut.{cut-choice, cut-far}
+use Rattle.demand.proofs.Made.{grown-grows, grown-made}
 use Rattle.answers.specs.Lines.{firstAt, linesOf}
 
 -- ---- the first in a list
@@ -44,7 +44,7 @@ first-after x [] more h = refl
 first-after x (s ∷ rs) more h = first-past x s (rs ++ more) (h s (List·Memᴰ·head refl)) ∙ first-after x rs more (λ r i. h r (List·Memᴰ·tail i))
 
 -- ---- where the splits lie
-module _ (q : Run) (least : 1 ≤ q .m) where
+module _ (q : Run) (least : 1 ≤ q .shortest .m) where
   -- a direct record splits its segment before the end, be it at row 0 for want of a gain
   direct-before : (start stop : ℕ) (r : Record) → direct q start stop ≡ some r → 0 < stop → r .split < stop
   unfolding trials
@@ -112,6 +112,6 @@ lines-of rs [] h = refl
 lines-of rs (c ∷ cs) h = rw (h c (List·Memᴰ·head refl), lines-of rs cs (λ r i. h r (List·Memᴰ·tail i)))
 
 -- THE LAW: the rows of the sheet, looked up among the records made, give the lines of the chosen records
-pub lines-are : (q : Run) → 1 ≤ q .m → 1 ≤ q .n → seedRecords q ≡ [] → linesOf (recordsOf q) (sheet (treeOf q)) ≡ cutLines (cuts (treeOf q))
+pub lines-are : (q : Run) → 1 ≤ q .shortest .m → 1 ≤ q .n → seedRecords q ≡ [] → linesOf (recordsOf q) (sheet (treeOf q)) ≡ cutLines (cuts (treeOf q))
 unfolding sheet
 lines-are q least nonempty none-stored = lines-of (recordsOf q) (cuts (treeOf q)) (first-made q least none-stored nonempty)

@@ -10,8 +10,9 @@ use lib.ListN.{length, take, drop, length-map}
 use lib.Seq.{take-all, take-at}
 use Rattle.scope.specs.Lists.{holding}
 use Rattle.scope.specs.Tree.{treeOf}
+use Rattle.scope.specs.Asked.{Matrix, Settings}
 use Rattle.scope.specs.Calls.{runOf, treeRefusal}
-use Rattle.scope.specs.Program.{Reading, Deck, deckRefusal, judgedText, deckTree, deckText, readingText, readInput, program}
+use Rattle.scope.specs.Program.{Reading, Deck, deckRefusal, judgedText, deckMatrix, deckSettings, deckTree, deckText, readingText, readInput, program}
 use Rattle.report.specs.Written.{Written}
 use Rattle.report.proofs.Texts.{written-length, written-whole}
 use Rattle.line.specs.declared.Given.{Given}
@@ -19,7 +20,7 @@ use Rattle.deck.specs.declared.Read.{Read}
 use Rattle.deck.specs.Meaning.{Told}
 use Rattle.deck.specs.Limits.{givenRefusal}
 use Rattle.deck.proofs.Refused.{held, refusal-right}
-use Rattle.answers.specs.Answered.{cellsHeld, pairsHeld, runHeld, lent, treeNumber, orElse, givenText, readText, Said}
+use Rattle.answers.specs.Answered.{matrixHeld, settingsHeld, runHeld, lent, treeNumber, orElse, givenText, readText, Said}
 use Rattle.answers.proofs.Limits.{DeckClean, deck-clean, tree-clean}
 
 held-cells : (zs : List ℤ) (cells₀ cells : List Float) (k : ℕ) → cells ≡ holding (take 2048 (map (ofInt binary64) zs)) cells₀ → length zs ≡ k → k ≤ 2048 → take k cells ≡ map (ofInt binary64) zs
@@ -37,25 +38,31 @@ module _ (cells₀ : List Float) (forbidden₀ : List ℕ) (room : 128 ≤ lengt
   number-same = refusal-right g forbidden (givenRefusal g forbidden) refl .1 cells₀ forbidden₀ cells r room told
 
   module _ (clean : DeckClean deck) where
-    cells-same : cellsHeld g cells ≡ map (ofInt binary64) (deck .cells)
+    cells-same : matrixHeld g cells .cells ≡ map (ofInt binary64) (deck .cells)
     cells-same =
         let size : g .n * g .d ≡ deck .n * deck .d = ap₂ _*_ (told .n-is) (told .d-is) in
         held-cells (deck .cells) cells₀ cells (g .n * g .d) (told .kept .cells-held) (omega (arith, clean .sizes .filled)) (omega (arith, clean .sizes .size))
 
-    pairs-same : pairsHeld g forbidden ≡ deck .forbidden
+    pairs-same : settingsHeld g forbidden .forbidden ≡ deck .forbidden
     pairs-same = held cells₀ forbidden₀ g cells forbidden r room told (omega (arith, told .kept .flat, clean .few))
 
-    -- what is said of the values held is said of the deck's
-    module _ {A : Type 0} (f : List Float → ℕ → ℕ → ℕ → ℕ → List ℕ → A) where
-      same-deck : f (cellsHeld g cells) (g .n) (g .d) (g .m) (g .threshold) (pairsHeld g forbidden) ≡ f (map (ofInt binary64) (deck .cells)) (deck .n) (deck .d) (deck .m) (deck .threshold) (deck .forbidden)
-      same-deck = let a = cells-same in let b = pairs-same in let n = told .n-is in let d = told .d-is in let m = told .m-is in let t = told .threshold-is in cc
+    -- what is held is the deck's
+    matrix-same : matrixHeld g cells ≡ deckMatrix deck
+    matrix-same = let a = cells-same in let n = told .n-is in let d = told .d-is in λ i. record { cells = a i; n = n i; d = d i }
+
+    settings-same : settingsHeld g forbidden ≡ deckSettings deck
+    settings-same =
+        let b = pairs-same in
+        let m = told .m-is in
+        let t = told .threshold-is in
+        λ i. record { shortest = record { m = m i }; threshold = ofBits binary64 (t i); forbidden = b i; layers = [] }
 
     tree-free : treeNumber g cells forbidden ≡ 0
     unfolding treeNumber
-    tree-free = same-deck (λ cs n d m t ps. treeRefusal cs n d m (ofBits binary64 t) ps [] lent) ∙ tree-clean deck clean
+    tree-free = ap₂ (λ (x : Matrix) (s : Settings). treeRefusal (record { matrix = x; settings = s; room = lent })) matrix-same settings-same ∙ tree-clean deck clean
 
     tree-same : treeOf (runHeld g cells forbidden) ≡ deckTree deck
-    tree-same = same-deck (λ cs n d m t ps. treeOf (runOf cs n d m (ofBits binary64 t) ps []))
+    tree-same = ap₂ (λ (x : Matrix) (s : Settings). treeOf (runOf x s)) matrix-same settings-same
 
   text-same : givenText g cells forbidden ≡ deckText deck
   unfolding givenText

@@ -5,37 +5,38 @@ use Prim.Native.Nat.{ℕ, zero, suc, _*_, _≤_}
 use lib.Ieee.{Float, ofBits, binary64}
 use lib.ListN.{length, take}
 use Rattle.scope.specs.Lists.{holding}
+use Rattle.scope.specs.Asked.{Matrix, Settings}
 use Rattle.scope.specs.Refusals.{unless, toldUnless}
 use Rattle.scope.specs.Grid.{Record}
 use Rattle.scope.specs.Text.{bytes, decimal, line}
 use Rattle.scope.specs.Tree.{Run, treeOf, recordsOf, sheet}
 use Rattle.scope.specs.Calls.{Room, runOf, countsOf, treeRefusal}
 use Rattle.scope.specs.Program.{judgedText, readInput, program}
-use Rattle.segmentation.specs.Flat.{flatRows, gainsOf}
+use Rattle.stored.specs.Flat.{flatRows, gainsOf}
 use Rattle.line.specs.declared.Given.{Given}
 use Rattle.deck.specs.declared.Read.{Read}
 use Rattle.deck.specs.Meaning.{Says}
 use Rattle.deck.specs.Limits.{givenRefusal}
 use Rattle.answers.specs.Lines.{linesOf}
-use Rattle.changeforest.specs.Answers.{grownOf, nodeRoom}
-use Rattle.changeforest.specs.declared.tree.Grown.{Grown}
+use Rattle.entry_tree.specs.Answers.{grownOf, nodeRoom}
+use Rattle.entry_tree.specs.declared.Grown.{Grown}
 
--- ---- what is kept of a deck: its cells, its forbidden pairs, its run
-abbrev pub cellsHeld : Given → List Float → List Float
-cellsHeld g cells = take (g .n * g .d) cells
+-- ---- what is kept of a deck: its matrix, its settings, its run
+abbrev pub matrixHeld : Given → List Float → Matrix
+matrixHeld g cells = record { cells = take (g .n * g .d) cells; n = g .n; d = g .d }
 
-abbrev pub pairsHeld : Given → List ℕ → List ℕ
-pairsHeld g forbidden = take (2 * g .pairs) forbidden
+abbrev pub settingsHeld : Given → List ℕ → Settings
+settingsHeld g forbidden = record { shortest = record { m = g .m }; threshold = ofBits binary64 (g .threshold); forbidden = take (2 * g .pairs) forbidden; layers = [] }
 
 abbrev pub runHeld : Given → List Float → List ℕ → Run
-runHeld g cells forbidden = runOf (cellsHeld g cells) (g .n) (g .d) (g .m) (ofBits binary64 (g .threshold)) (pairsHeld g forbidden) []
+runHeld g cells forbidden = runOf (matrixHeld g cells) (settingsHeld g forbidden)
 
 -- the room that is lent to its tree
 abbrev pub lent : Room
 lent = record { sums = 2112; records = 509; nodes = nodeRoom; cuts = 254 }
 
 unfoldable pub treeNumber : Given → List Float → List ℕ → ℕ
-treeNumber g cells forbidden = treeRefusal (cellsHeld g cells) (g .n) (g .d) (g .m) (ofBits binary64 (g .threshold)) (pairsHeld g forbidden) [] lent
+treeNumber g cells forbidden = treeRefusal (record { matrix = matrixHeld g cells; settings = settingsHeld g forbidden; room = lent })
 
 -- the deck's own refusal, or else its tree's: proofs/Said.antt has that a deck that was read and is not refused has none
 abbrev pub orElse : ℕ → ℕ → ℕ

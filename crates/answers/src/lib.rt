@@ -2,9 +2,10 @@
 // specs/Answered.antt says what is written, and proofs/Said.antt that it is the program's text for whichever input was read. The room is in the types.
 mod sheet;
 
-use changeforest::tree;
-use changeforest::tree::Grown;
+use control::Settings;
+use control::Shortest;
 use deck::Read;
+use entry_tree::Grown;
 use line::Given;
 use line::MOST_CELLS;
 use line::MOST_PAIRS;
@@ -92,13 +93,17 @@ fn grow(
 {
     let len = deck.n * deck.d;
     let end = 2 * deck.pairs;
+    let shortest = Shortest { m: deck.m };
     let threshold = deck::threshold(deck.threshold);
-    tree::split_points(
+    let settings = Settings {
+        shortest,
+        threshold,
+    };
+    entry_tree::split_points(
         &cells[..len],
         deck.n,
         deck.d,
-        deck.m,
-        threshold,
+        settings,
         &forbidden[..end],
         &cells[..0],
         sums,

@@ -2,11 +2,11 @@
 // A run without layers chooses direct records alone, so a cut's record is the first one made that splits there (proofs/Lookup.antt).
 use binary_segmentation::tree::Counts;
 use optimizer::optimizer_result::GainRecord;
-use segmentation::records;
+use stored::records;
 ghost use mathlib.Core.Path.{_≡_};
 ghost use Prim.Native.Nat.{_+_, _*_, _≤_};
 ghost use lib.ListN.{length, take};
-ghost use Rattle.segmentation.specs.Flat.{recordsIn};
+ghost use Rattle.stored.specs.Flat.{recordsIn};
 ghost use Rattle.report.specs.Written.{Written};
 ghost use Rattle.answers.specs.Lines.{firstAt, foundOf, lineOf, linesOf};
 ghost use Rattle.answers.specs.Answered.{sheetOf};

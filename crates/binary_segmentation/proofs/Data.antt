@@ -7,14 +7,18 @@ use Rattle.optimizer.specs.declared.optimizer_result.GainRecord.{GainRecord}
 use Rattle.binary_segmentation.specs.declared.node.Node.{Node}
 use Rattle.binary_segmentation.specs.declared.tree.Counts.{Counts}
 use Rattle.binary_segmentation.specs.declared.tree.Judged.the-variants.{Uncut, Cut}
+use Rattle.control.specs.declared.Settings.{Settings}
+use Rattle.binary_segmentation.specs.declared.tree.Asked.{Asked}
 use Rattle.rows.proofs.Position as position′
 use Rattle.rows.proofs.Position.Laws as position″
 use Rattle.optimizer.proofs.optimizer_result.GainRecord as record′
 use Rattle.optimizer.proofs.optimizer_result.GainRecord.Laws as record″
 use Rattle.binary_segmentation.proofs.node.Node as node′
 use Rattle.binary_segmentation.proofs.node.Node.Laws as node″
-use Rattle.binary_segmentation.proofs.tree.Settings as settings′
-use Rattle.binary_segmentation.proofs.tree.Settings.Laws as settings″
+use Rattle.control.proofs.Settings as settings′
+use Rattle.control.proofs.Settings.Laws as settings″
+use Rattle.binary_segmentation.proofs.tree.Asked as asked′
+use Rattle.binary_segmentation.proofs.tree.Asked.Laws as asked″
 use Rattle.binary_segmentation.proofs.tree.Counts as counts′
 use Rattle.binary_segmentation.proofs.tree.Counts.Laws as counts″
 use Rattle.binary_segmentation.proofs.tree.Judged as judged′
@@ -31,6 +35,9 @@ node = of-struct node′.the-type node″.the-laws node″.the-plain node″.the
 
 abbrev pub settings : Datum
 settings = of-struct settings′.the-type settings″.the-laws settings″.the-plain settings″.the-copy
+
+abbrev pub asked : Datum
+asked = of-struct asked′.the-type asked″.the-laws asked″.the-plain asked″.the-copy
 
 abbrev pub counts : Datum
 counts = of-struct counts′.the-type counts″.the-laws counts″.the-plain counts″.the-copy
@@ -56,3 +63,6 @@ position-fits n is = LL.owes position′.the-type position″.the-laws (record {
 
 pub counts-fit : (n : Counts) → Fit word (n .nodes) → Fit word (n .records) → Fit word (n .cuts) → Fit counts n
 counts-fit n a b c = LL.owes counts′.the-type counts″.the-laws n (a, (b, (c, tt)))
+
+pub asked-fits : (d : ℕ) (s : Settings) → Fit word d → Fit settings s → Fit asked (record { d = d; settings = s })
+asked-fits d s a b = LL.owes asked′.the-type asked″.the-laws (record { d = d; settings = s }) (a, (b, tt))

@@ -11,7 +11,7 @@ use Rattle.lent.proofs.Data.{word, nothing}
 use Rattle.lent.proofs.Held.{Deal, unique, shared, plain}
 use Rattle.binary_segmentation.specs.Nodes.{toNode, leafOf, cutOf}
 use Rattle.binary_segmentation.specs.Growth.{over, behindCut, Judging, Growing, Fits, Sized, Ready, Segmented}
-use Rattle.binary_segmentation.proofs.Data.{position, gain-record, node, settings, counts, judged}
+use Rattle.binary_segmentation.proofs.Data.{position, gain-record, node, asked, counts, judged}
 
 -- node::put_node
 abbrev pub putting : Deal
@@ -52,7 +52,7 @@ making = record {
 -- tree::judge
 abbrev pub judging : Deal
 judging = record {
-  ks = shared f64 ∷ shared usize ∷ plain settings ∷ plain position ∷ plain position ∷ unique usize ∷ unique f64 ∷ plain counts ∷ [];
+  ks = shared f64 ∷ shared usize ∷ plain asked ∷ plain position ∷ plain position ∷ unique usize ∷ unique f64 ∷ plain counts ∷ [];
   res = judged;
   asks = λ (sums, (_, (s, (start, (stop, (rows, (gains, (at, _)))))))).
       (start .0 ≤ stop .0) × Sized s (stop .0) (length (now (sums .x))) × (at .nodes + 1 < 2 ^ 64) × (at .records + 1 < 2 ^ 64) × (3 * at .records + 3 ≤ length (rows .list)) × (at .records < length (gains .list));
@@ -72,7 +72,7 @@ putting-cut = record {
 -- tree::grow
 abbrev pub growing : Deal
 growing = record {
-  ks = shared f64 ∷ shared usize ∷ plain settings ∷ plain position ∷ plain position ∷ unique usize ∷ unique f64 ∷ unique (node .row) ∷ unique usize ∷ plain counts ∷ [];
+  ks = shared f64 ∷ shared usize ∷ plain asked ∷ plain position ∷ plain position ∷ unique usize ∷ unique f64 ∷ unique (node .row) ∷ unique usize ∷ plain counts ∷ [];
   res = counts;
   asks = λ (sums, (forbidden, (s, (start, (stop, (rows, (gains, (nodes, (cuts, (at, _)))))))))).
       Sized s (stop .0) (length (now (sums .x))) × Fits (over (now (sums .x)) (now (forbidden .x)) s) (start .0) (stop .0) at (record { rows = rows .list; gains = gains .list; nodes = nodes .list; cuts = cuts .list });
@@ -84,7 +84,7 @@ growing = record {
 -- tree::binary_segmentation
 abbrev pub segmenting : Deal
 segmenting = record {
-  ks = shared f64 ∷ shared usize ∷ plain settings ∷ plain word ∷ unique usize ∷ unique f64 ∷ unique (node .row) ∷ unique usize ∷ plain word ∷ [];
+  ks = shared f64 ∷ shared usize ∷ plain asked ∷ plain word ∷ unique usize ∷ unique f64 ∷ unique (node .row) ∷ unique usize ∷ plain word ∷ [];
   res = counts;
   asks = λ (sums, (forbidden, (s, (n, (rows, (gains, (nodes, (cuts, (count, _))))))))).
       Sized s n (length (now (sums .x))) × Ready (now (sums .x)) (now (forbidden .x)) s n count (record { rows = rows .list; gains = gains .list; nodes = nodes .list; cuts = cuts .list });

@@ -15,23 +15,23 @@ use lib.Seq.{sets, set-comm, length-sets}
 use Rattle.scope.specs.Grid.{Record}
 use Rattle.scope.specs.Layers.{one}
 use Rattle.scope.specs.Tree.{Run, direct, choice, Verdict, uncut, cut, judged, verdict, Tree, leaf, node, Grown, parted, grow, nodes, nodeCount, sheet, cuts}
-use Rattle.segmentation.specs.Flat.{Put}
+use Rattle.stored.specs.Flat.{Put}
 use Rattle.rows.proofs.Stored.{sets-append}
-use Rattle.segmentation.proofs.Flat.{put-more, put-long, put-read}
+use Rattle.stored.proofs.Flat.{put-more, put-long, put-read}
 use Rattle.binary_segmentation.specs.declared.node.Node.{Node as NodeStruct}
 use Rattle.optimizer.specs.declared.optimizer_result.GainRecord.{GainRecord}
 use Rattle.optimizer.specs.Records.{toRecord}
-use Rattle.binary_segmentation.specs.declared.tree.Settings.{Settings}
+use Rattle.binary_segmentation.specs.declared.tree.Asked.{Asked}
 use Rattle.binary_segmentation.specs.declared.tree.Counts.{Counts}
 use Rattle.binary_segmentation.specs.declared.tree.Judged.the-variants.{Uncut, Cut}
 use Rattle.binary_segmentation.specs.Nodes.{fromRecord, toNode, leafOf, cutOf}
 use Rattle.binary_segmentation.specs.Growth.{Lent, stored, judgedOf, behind, behindCut, Judging, Written, Growing, Sound, Fits, Sized}
-use Rattle.binary_segmentation.proofs.Records.{zero-one, direct-found, one-found}
-use Rattle.binary_segmentation.proofs.Inside.{inside-are}
+use Rattle.demand.proofs.Records.{zero-one, direct-found, one-found}
+use Rattle.demand.proofs.Inside.{inside-are}
 use Rattle.scope.proofs.Greatest.{first-one}
-use Rattle.binary_segmentation.proofs.Choice.{choice-of}
-use Rattle.binary_segmentation.proofs.Sheet.{sheet-node}
-use Rattle.binary_segmentation.proofs.Room.{count-nodes}
+use Rattle.demand.proofs.Choice.{choice-of}
+use Rattle.demand.proofs.Sheet.{sheet-node}
+use Rattle.demand.proofs.Room.{count-nodes}
 
 -- ---- what cuts a segment lies m or more inside it
 module _ (q : Run) where
@@ -47,10 +47,10 @@ module _ (q : Run) where
       go none e = zero-one (cc)
       go (some r) e = test r (lt (q .threshold) (r .gain)) refl e
 
-  pub direct-sound : (start stop : ℕ) (r : Record) → direct q start stop ≡ some r → (t : Float) → lt t (r .gain) ≡ true → (r .start + q .m ≤ r .split) × (r .split + q .m < r .stop)
+  pub direct-sound : (start stop : ℕ) (r : Record) → direct q start stop ≡ some r → (t : Float) → lt t (r .gain) ≡ true → (r .start + q .shortest .m ≤ r .split) × (r .split + q .shortest .m < r .stop)
   direct-sound start stop r h t k = let f = direct-found q start stop r h in let w = f .row t k in (omega (arith, f .start-is, w .low), omega (arith, f .stop-is, w .high))
 
-  pub cut-within : (rs : List Record) (start stop : ℕ) (c : Record) → Sound (q .m) rs → verdict q rs start stop ≡ cut c → (start + q .m ≤ c .split) × (c .split + q .m < stop)
+  pub cut-within : (rs : List Record) (start stop : ℕ) (c : Record) → Sound (q .shortest) rs → verdict q rs start stop ≡ cut c → (start + q .shortest .m ≤ c .split) × (c .split + q .shortest .m < stop)
   cut-within rs start stop c sound h =
       let (e, t) = cut-chosen rs start stop c h in
       let (d, f, g) = choice-of q rs start stop c e in
@@ -60,10 +60,10 @@ module _ (q : Run) where
       (List·Memᴰ·cases-cons (first-one g))
 
   -- ---- records are sound
-  sound-append : (rs more : List Record) → Sound (q .m) rs → Sound (q .m) more → Sound (q .m) (rs ++ more)
+  sound-append : (rs more : List Record) → Sound (q .shortest) rs → Sound (q .shortest) more → Sound (q .shortest) (rs ++ more)
   sound-append rs more h k r i = ⊎-elim (h r) (k r) (List·Memᴰ·append-cases rs i)
 
-  pub one-sound : (start stop : ℕ) → Sound (q .m) (one (direct q start stop))
+  pub one-sound : (start stop : ℕ) → Sound (q .shortest) (one (direct q start stop))
   one-sound start stop r i = direct-sound start stop r (one-found q start stop r i)
 
   one-few : (o : Option Record) → length (one o) ≤ 1
@@ -72,7 +72,7 @@ module _ (q : Run) where
 
   -- what is made: sound, and at most a record for each node
   record Modest (g : Grown) : Type 0 where
-    sound : Sound (q .m) (g .made)
+    sound : Sound (q .shortest) (g .made)
     few : length (g .made) ≤ nodeCount (g .tree)
 
   modest-parts : (start stop : ℕ) (v : Verdict) (L : ℕ → Grown) (R : ℕ → List Record → Grown) → ((c : ℕ) → Modest (L c)) → ((c : ℕ) (more : List Record) → Modest (R c more)) → Modest (parted start stop (one (direct q start stop)) v L R)
@@ -149,7 +149,7 @@ of-cut start stop n (uncut o) c next h = zero-one (cc)
 of-cut start stop n (cut r) c next h = let w : c ≡ fromRecord r = cc in (ap (λ (x : GainRecord). cut (toRecord x)) (sym w), (cc))
 
 -- a shorter stop asks less
-pub sized-left : (s : Settings) (c stop long : ℕ) → c < stop → Sized s stop long → Sized s c long
+pub sized-left : (s : Asked) (c stop long : ℕ) → c < stop → Sized s stop long → Sized s c long
 sized-left s c stop long h k = (k .0, omega (arith, k .1), le-trans (mul-le-mul-right (s .d) (omega arith)) (k .2))
 
 module _ (q : Run) (start stop : ℕ) (at : Counts) (l : Lent) (fits : Fits q start stop at l) where

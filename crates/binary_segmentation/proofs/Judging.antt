@@ -16,7 +16,7 @@ use Rattle.optimizer.specs.declared.optimizer_result.BestSplit.{BestSplit}
 use Rattle.optimizer.specs.declared.optimizer_result.BestSplit.the-variants.{Found, Refused}
 use Rattle.optimizer.specs.Records.{bestSplitOf, searched}
 use Rattle.optimizer.proofs.Found.{found-search, refused-search}
-use Rattle.segmentation.specs.Flat.{flatRows, gainsOf, recordsIn}
+use Rattle.stored.specs.Flat.{flatRows, gainsOf, recordsIn}
 use Rattle.binary_segmentation.specs.declared.tree.Counts.{Counts}
 use Rattle.binary_segmentation.specs.declared.tree.Judged.the-variants.{Uncut, Cut}
 use Rattle.binary_segmentation.specs.Nodes.{fromRecord, toNode, leafOf}
@@ -34,12 +34,12 @@ refused-refused : (a : Answer Split) (k : ℕ) → bestSplitOf a ≡ Refused k �
 refused-refused (refused j) k h = ap refused (cc)
 refused-refused (given s) k h = absurd (let z : _≡_ {A = ℕ} 0 1 = cc in omega arith)
 
-module _ (q : Run) (start stop : ℕ) (r : BestSplit) (answer : r ≡ bestSplitOf (searched (q .gain) (q .m) (q .forbidden) start stop)) where
+module _ (q : Run) (start stop : ℕ) (r : BestSplit) (answer : r ≡ bestSplitOf (searched (q .gain) (q .shortest) (q .forbidden) start stop)) where
   pub direct-some : (p : Position) (g : Float) → r ≡ Found p g → direct q start stop ≡ some (record { start = start; stop = stop; split = p .0; gain = g })
-  direct-some p g h = found-search (q .gain) (q .m) (q .forbidden) start stop _ (given-found _ p g (sym answer ∙ h))
+  direct-some p g h = found-search (q .gain) (q .shortest) (q .forbidden) start stop _ (given-found _ p g (sym answer ∙ h))
 
   pub direct-none : (k : ℕ) → r ≡ Refused k → direct q start stop ≡ none
-  direct-none k h = refused-search (q .gain) (q .m) (q .forbidden) start stop k (refused-refused _ k (sym answer ∙ h))
+  direct-none k h = refused-search (q .gain) (q .shortest) (q .forbidden) start stop k (refused-refused _ k (sym answer ∙ h))
 
 module _ (q : Run) (start stop : ℕ) (at : Counts) (rows : List ℕ) (gains : List Float) where
   -- nothing is found

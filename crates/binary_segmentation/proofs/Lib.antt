@@ -1,18 +1,4 @@
--- The laws of the definitions of specs/.
-pub mod Records
-pub mod Inside
-pub mod Choice
-pub mod Cut
-pub mod Grows
-pub mod Sheet
-pub mod Nodes
-pub mod Told
-pub mod Made
-pub mod Room
-pub mod Level
-pub mod Wholes
-pub mod Zero
-pub mod Demand
+-- Laws that the proofs of the growth share.
 pub mod Judging
 pub mod Growth
 pub mod Segmented

@@ -7,17 +7,18 @@ use native.Mathlib.Omega.{arith}
 use lib.Ieee.{Float}
 use lib.ListN.{length}
 use Rattle.scope.specs.Lists.{holding}
+use Rattle.control.specs.Settings.{shortestOf}
 use Rattle.scope.specs.Grid.{Record}
 use Rattle.scope.specs.Layers.{Segment, one}
 use Rattle.scope.specs.Tree.{Run, direct, choice, verdict, seedRecords, parted, grow, grown, treeOf, recordsOf, nodes, nodeCount, sheet, mostNodes}
-use Rattle.segmentation.specs.Flat.{flatRows, gainsOf, recordsIn, Put}
-use Rattle.segmentation.proofs.Flat.{sets-holding, put-more, put-told, told-put}
-use Rattle.binary_segmentation.specs.declared.tree.Settings.{Settings}
+use Rattle.stored.specs.Flat.{flatRows, gainsOf, recordsIn, Put}
+use Rattle.stored.proofs.Flat.{sets-holding, put-more, put-told, told-put}
+use Rattle.binary_segmentation.specs.declared.tree.Asked.{Asked}
 use Rattle.binary_segmentation.specs.declared.tree.Counts.{Counts}
 use Rattle.binary_segmentation.specs.Nodes.{toNode}
 use Rattle.binary_segmentation.specs.Growth.{runOver, over, Lent, stored, Written, Growing, Sound, Fits, Ready, Holds, Segmented}
-use Rattle.binary_segmentation.proofs.Records.{seeds-are}
-use Rattle.binary_segmentation.proofs.Demand.{demand}
+use Rattle.demand.proofs.Records.{seeds-are}
+use Rattle.demand.proofs.Demand.{demand}
 use Rattle.binary_segmentation.proofs.Growth.{direct-sound, made-few, nodes-long}
 
 -- ---- the stored records stand where they are read
@@ -44,7 +45,7 @@ records-put k rows gains h g =
     let w = told-put {rs = recordsIn rows gains k} (omega (arith, e)) (omega (arith, e)) p q in
     record { rows-hold = w .rows-hold; gains-hold = w .gains-hold; told = omega (arith, e) }
 
-module _ (sums : List Float) (forbidden : List ℕ) (s : Settings) (n count : ℕ) (l : Lent) (ready : Ready sums forbidden s n count l) where
+module _ (sums : List Float) (forbidden : List ℕ) (s : Asked) (n count : ℕ) (l : Lent) (ready : Ready sums forbidden s n count l) where
   abbrev before : Counts
   before = record { nodes = 0; records = count; cuts = 0 }
 
@@ -63,17 +64,17 @@ module _ (sums : List Float) (forbidden : List ℕ) (s : Settings) (n count : �
     unfolding grown
     whole = rw (← seeded) (same-growth n (seedRecords q) 0 n)
 
-    few : nodeCount (treeOf q) ≤ mostNodes n (s .m)
+    few : nodeCount (treeOf q) ≤ mostNodes n (shortestOf (s .settings .shortest))
     few = demand q (ready .least) (ready .nonempty) .few-nodes
 
-    few-cuts : length (sheet (treeOf q)) ≤ (mostNodes n (s .m) - 1) / 2
+    few-cuts : length (sheet (treeOf q)) ≤ (mostNodes n (shortestOf (s .settings .shortest)) - 1) / 2
     few-cuts = demand q (ready .least) (ready .nonempty) .few-cuts
 
     few-made : length (grown q .made) ≤ nodeCount (treeOf q)
     unfolding grown
     few-made = made-few q n (seedRecords q) 0 n
 
-    seeds-sound : Sound (s .m) (seedRecords q)
+    seeds-sound : Sound (shortestOf (s .settings .shortest)) (seedRecords q)
     seeds-sound r i = let f = seeds-are q r i in direct-sound q (f .seed .start) (f .seed .stop) r (f .found)
 
     fits : Fits (over sums forbidden s) 0 n before l

@@ -7,24 +7,26 @@ use lib.Ieee.{Float, lt}
 use lib.ListN.{length}
 use lib.Seq.{sets}
 use Rattle.scope.specs.Lists.{_∈_, holding}
+use Rattle.scope.specs.Asked.{Shortest}
 use Rattle.scope.specs.Gain.{gainOf}
 use Rattle.scope.specs.Grid.{Record}
 use Rattle.scope.specs.Layers.{Segment, one}
 use Rattle.scope.specs.Tree.{Run, direct, seedRecords, Verdict, uncut, cut, verdict, Grown, grow, treeOf, recordsOf, nodes, nodeCount, sheet, mostNodes}
-use Rattle.segmentation.specs.Flat.{flatRows, gainsOf, recordsIn, Put}
+use Rattle.control.specs.Settings.{shortestOf}
+use Rattle.stored.specs.Flat.{flatRows, gainsOf, recordsIn, Put}
 use Rattle.binary_segmentation.specs.declared.node.Node.{Node as NodeStruct}
-use Rattle.binary_segmentation.specs.declared.tree.Settings.{Settings}
+use Rattle.binary_segmentation.specs.declared.tree.Asked.{Asked}
 use Rattle.binary_segmentation.specs.declared.tree.Counts.{Counts}
 use Rattle.binary_segmentation.specs.declared.tree.Judged.{Judged}
 use Rattle.binary_segmentation.specs.declared.tree.Judged.the-variants.{Uncut, Cut}
 use Rattle.binary_segmentation.specs.Nodes.{fromRecord, toNode, leafOf}
 
 -- a run over prefix sums: n rows, and the segments that were searched beforehand
-abbrev pub runOver : List Float → List ℕ → Settings → ℕ → List Segment → Run
-runOver sums forbidden s n seeds = record { n = n; m = s .m; threshold = s .threshold; forbidden = forbidden; seeds = seeds; gain = gainOf sums (s .d) }
+abbrev pub runOver : List Float → List ℕ → Asked → ℕ → List Segment → Run
+runOver sums forbidden s n seeds = record { n = n; shortest = shortestOf (s .settings .shortest); threshold = s .settings .threshold; forbidden = forbidden; seeds = seeds; gain = gainOf sums (s .d) }
 
 -- what growing reads of it: neither n nor the seeds
-abbrev pub over : List Float → List ℕ → Settings → Run
+abbrev pub over : List Float → List ℕ → Asked → Run
 over sums forbidden s = runOver sums forbidden s 0 []
 
 -- the lent slices
@@ -68,14 +70,14 @@ pub record Growing (q : Run) (start stop : ℕ) (at : Counts) (l l′ : Lent) (n
   pub by : (k : ℕ) → stop - start ≤ k → Written (grow q k (stored l (at .records)) start stop) at l l′ next
 
 -- a record whose gain is above anything splits its segment m or more from both ends
-abbrev pub Sound : ℕ → List Record → Type 0
-Sound m rs = (r : Record) → r ∈ rs → (t : Float) → lt t (r .gain) ≡ true → (r .start + m ≤ r .split) × (r .split + m < r .stop)
+abbrev pub Sound : Shortest → List Record → Type 0
+Sound short rs = (r : Record) → r ∈ rs → (t : Float) → lt t (r .gain) ≡ true → (r .start + short .m ≤ r .split) × (r .split + short .m < r .stop)
 
 -- there is room at some fuel that is enough: a node and a record for each segment
 pub record Fits (q : Run) (start stop : ℕ) (at : Counts) (l : Lent) : Type 0 where
-  pub least : 1 ≤ q .m
+  pub least : 1 ≤ q .shortest .m
   pub nonempty : start < stop
-  pub sound : Sound (q .m) (stored l (at .records))
+  pub sound : Sound (q .shortest) (stored l (at .records))
   pub fuel : ℕ
   pub enough : stop - start ≤ fuel
   pub room-rows : 3 * (at .records + nodeCount (grow q fuel (stored l (at .records)) start stop .tree)) ≤ length (l .rows)
@@ -84,20 +86,20 @@ pub record Fits (q : Run) (start stop : ℕ) (at : Counts) (l : Lent) : Type 0 w
   pub room-cuts : at .cuts + length (sheet (grow q fuel (stored l (at .records)) start stop .tree)) ≤ length (l .cuts)
 
 -- the sizes that the search asks
-abbrev pub Sized : Settings → ℕ → ℕ → Type 0
-Sized s stop long = (s .m ≤ 4096) × (stop ≤ 4096) × ((stop + 1) * s .d ≤ long)
+abbrev pub Sized : Asked → ℕ → ℕ → Type 0
+Sized s stop long = (s .settings .shortest .m ≤ 4096) × (stop ≤ 4096) × ((stop + 1) * s .d ≤ long)
 
 -- ---- the whole run [0, n)
 -- there is room for it, and the first `count` records are those of some seeds
-pub record Ready (sums : List Float) (forbidden : List ℕ) (s : Settings) (n count : ℕ) (l : Lent) : Type 0 where
-  pub least : 1 ≤ s .m
+pub record Ready (sums : List Float) (forbidden : List ℕ) (s : Asked) (n count : ℕ) (l : Lent) : Type 0 where
+  pub least : 1 ≤ s .settings .shortest .m
   pub nonempty : 1 ≤ n
   pub seeds : List Segment
   pub seeded : seedRecords (runOver sums forbidden s n seeds) ≡ stored l count
-  pub room-rows : 3 * (count + mostNodes n (s .m)) ≤ length (l .rows)
-  pub room-gains : count + mostNodes n (s .m) ≤ length (l .gains)
-  pub room-nodes : mostNodes n (s .m) ≤ length (l .nodes)
-  pub room-cuts : (mostNodes n (s .m) - 1) / 2 ≤ length (l .cuts)
+  pub room-rows : 3 * (count + mostNodes n (shortestOf (s .settings .shortest))) ≤ length (l .rows)
+  pub room-gains : count + mostNodes n (shortestOf (s .settings .shortest)) ≤ length (l .gains)
+  pub room-nodes : mostNodes n (shortestOf (s .settings .shortest)) ≤ length (l .nodes)
+  pub room-cuts : (mostNodes n (shortestOf (s .settings .shortest)) - 1) / 2 ≤ length (l .cuts)
 
 -- the slices hold what the definitions tell of the run q, and the rest is as it was
 pub record Holds (q : Run) (l l′ : Lent) (next : Counts) : Type 0 where
@@ -108,5 +110,5 @@ pub record Holds (q : Run) (l l′ : Lent) (next : Counts) : Type 0 where
   pub counts : next ≡ record { nodes = nodeCount (treeOf q); records = length (recordsOf q); cuts = length (sheet (treeOf q)) }
 
 -- of each run whose seeds have the stored records
-pub record Segmented (sums : List Float) (forbidden : List ℕ) (s : Settings) (n count : ℕ) (l l′ : Lent) (next : Counts) : Type 0 where
+pub record Segmented (sums : List Float) (forbidden : List ℕ) (s : Asked) (n count : ℕ) (l l′ : Lent) (next : Counts) : Type 0 where
   pub by : (seeds : List Segment) → seedRecords (runOver sums forbidden s n seeds) ≡ stored l count → Holds (runOver sums forbidden s n seeds) l l′ next

@@ -2,22 +2,21 @@
 // What decides stands in small functions. `grow` and `binary_segmentation` hand the lent node list on and decide nothing.
 use crate::node;
 use crate::node::Node;
-use optimizer::grid_search;
+use control::Settings;
 use optimizer::optimizer_result::BestSplit;
 use optimizer::optimizer_result::GainRecord;
 use rows::Position;
-use segmentation::choice;
-use segmentation::records;
+use stored::choice;
+use stored::records;
 ghost use mathlib.Core.Path.{_≡_};
 ghost use Prim.Native.Nat.{_+_, _*_, _<_, _≤_, _^_};
 ghost use lib.ListN.{length, set};
 ghost use Rattle.binary_segmentation.specs.Growth.{over, behind, behindCut, Judging, Growing, Fits, Sized, Ready, Segmented};
 
-// The numbers that every segment shares.
-pub struct Settings {
+// What every segment is asked with: how many columns there are, and the run's settings.
+pub struct Asked {
     pub d: usize,
-    pub m: usize,
-    pub threshold: f64,
+    pub settings: Settings,
 }
 
 // How many nodes, records and cuts there are: the places of the next ones.
@@ -51,22 +50,22 @@ impl Counts {
 fn judge(
     sums: &[f64],
     forbidden: &[usize],
-    settings: Settings,
+    asked: Asked,
     start: Position,
     stop: Position,
     rows: &mut [usize],
     gains: &mut [f64],
     counts: Counts,
 ) -> Judged
-    requires { ⌜ (start .0 ≤ stop .0) × Sized settings (stop .0) (length (now sums)) × (counts .nodes + 1 < 2 ^ 64) × (counts .records + 1 < 2 ^ 64) × (3 * counts .records + 3 ≤ length (now rows)) × (counts .records < length (now gains)) ⌝ }
-    ensures { λ r. ⌜ Judging (over (now (sums .entry)) (now (forbidden .entry)) settings) (start .0) (stop .0) counts (now (rows .entry)) (now (gains .entry)) (now (rows .exit)) (now (gains .exit)) r ⌝ }
+    requires { ⌜ (start .0 ≤ stop .0) × Sized asked (stop .0) (length (now sums)) × (counts .nodes + 1 < 2 ^ 64) × (counts .records + 1 < 2 ^ 64) × (3 * counts .records + 3 ≤ length (now rows)) × (counts .records < length (now gains)) ⌝ }
+    ensures { λ r. ⌜ Judging (over (now (sums .entry)) (now (forbidden .entry)) asked) (start .0) (stop .0) counts (now (rows .entry)) (now (gains .entry)) (now (rows .exit)) (now (gains .exit)) r ⌝ }
 {
-    let d = settings.d;
-    let m = settings.m;
+    let settings = asked.settings;
+    let shortest = settings.shortest;
     let BestSplit::Found(best_split, max_gain) = grid_search::find_best_split(
         sums,
-        d,
-        m,
+        asked.d,
+        shortest,
         forbidden,
         start,
         stop,
@@ -107,7 +106,7 @@ fn put_cut(cuts: &mut [usize], counts: Counts, split: Position) -> Counts
 fn grow(
     sums: &[f64],
     forbidden: &[usize],
-    settings: Settings,
+    asked: Asked,
     start: Position,
     stop: Position,
     rows: &mut [usize],
@@ -116,10 +115,10 @@ fn grow(
     cuts: &mut [usize],
     counts: Counts,
 ) -> Counts
-    requires { ⌜ Sized settings (stop .0) (length (now sums)) × Fits (over (now sums) (now forbidden) settings) (start .0) (stop .0) counts (record { rows = now rows; gains = now gains; nodes = now nodes; cuts = now cuts }) ⌝ }
-    ensures { λ r. ⌜ Growing (over (now (sums .entry)) (now (forbidden .entry)) settings) (start .0) (stop .0) counts (record { rows = now (rows .entry); gains = now (gains .entry); nodes = now (nodes .entry); cuts = now (cuts .entry) }) (record { rows = now (rows .exit); gains = now (gains .exit); nodes = now (nodes .exit); cuts = now (cuts .exit) }) r ⌝ }
+    requires { ⌜ Sized asked (stop .0) (length (now sums)) × Fits (over (now sums) (now forbidden) asked) (start .0) (stop .0) counts (record { rows = now rows; gains = now gains; nodes = now nodes; cuts = now cuts }) ⌝ }
+    ensures { λ r. ⌜ Growing (over (now (sums .entry)) (now (forbidden .entry)) asked) (start .0) (stop .0) counts (record { rows = now (rows .entry); gains = now (gains .entry); nodes = now (nodes .entry); cuts = now (cuts .entry) }) (record { rows = now (rows .exit); gains = now (gains .exit); nodes = now (nodes .exit); cuts = now (cuts .exit) }) r ⌝ }
 {
-    match judge(sums, forbidden, settings, start, stop, rows, gains, counts) {
+    match judge(sums, forbidden, asked, start, stop, rows, gains, counts) {
         Judged::Uncut(leaf, behind) => {
             node::put_node(nodes, counts.nodes, leaf);
             behind
@@ -129,7 +128,7 @@ fn grow(
             let left = grow(
                 sums,
                 forbidden,
-                settings,
+                asked,
                 start,
                 split,
                 rows,
@@ -147,7 +146,7 @@ fn grow(
             grow(
                 sums,
                 forbidden,
-                settings,
+                asked,
                 split,
                 stop,
                 rows,
@@ -164,7 +163,7 @@ fn grow(
 pub fn binary_segmentation(
     sums: &[f64],
     forbidden: &[usize],
-    settings: Settings,
+    asked: Asked,
     n: usize,
     rows: &mut [usize],
     gains: &mut [f64],
@@ -172,8 +171,8 @@ pub fn binary_segmentation(
     cuts: &mut [usize],
     count: usize,
 ) -> Counts
-    requires { ⌜ Sized settings n (length (now sums)) × Ready (now sums) (now forbidden) settings n count (record { rows = now rows; gains = now gains; nodes = now nodes; cuts = now cuts }) ⌝ }
-    ensures { λ r. ⌜ Segmented (now (sums .entry)) (now (forbidden .entry)) settings n count (record { rows = now (rows .entry); gains = now (gains .entry); nodes = now (nodes .entry); cuts = now (cuts .entry) }) (record { rows = now (rows .exit); gains = now (gains .exit); nodes = now (nodes .exit); cuts = now (cuts .exit) }) r ⌝ }
+    requires { ⌜ Sized asked n (length (now sums)) × Ready (now sums) (now forbidden) asked n count (record { rows = now rows; gains = now gains; nodes = now nodes; cuts = now cuts }) ⌝ }
+    ensures { λ r. ⌜ Segmented (now (sums .entry)) (now (forbidden .entry)) asked n count (record { rows = now (rows .entry); gains = now (gains .entry); nodes = now (nodes .entry); cuts = now (cuts .entry) }) (record { rows = now (rows .exit); gains = now (gains .exit); nodes = now (nodes .exit); cuts = now (cuts .exit) }) r ⌝ }
 {
     let before = Counts {
         nodes: 0,
@@ -183,7 +182,7 @@ pub fn binary_segmentation(
     grow(
         sums,
         forbidden,
-        settings,
+        asked,
         Position(0),
         Position(n),
         rows,

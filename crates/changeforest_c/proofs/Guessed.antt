@@ -8,14 +8,15 @@ use native.Mathlib.Omega.{arith}
 use lib.Dec.{ltb}
 use lib.ListN.{length}
 use Rattle.scope.specs.Lists.{keep, select}
+use Rattle.scope.specs.Asked.{Shortest}
 use Rattle.scope.specs.Refusals.{Answer, refused, given, unless, firstOf}
 use Rattle.scope.specs.Candidates.{candidates}
 use Rattle.scope.specs.Curves.{isMember, guesses, aboveLast, rising, quarters, quartersOf}
-use Rattle.scope.specs.Calls.{guessesTests, guessesAnswer}
-use Rattle.optimizer.specs.Guessed.{rowsOf, guessesIn}
-use Rattle.optimizer.specs.declared.two_step_search.Guesses.{Guesses}
-use Rattle.changeforest.specs.Answers.{guessedOf}
-use Rattle.changeforest.specs.declared.two_step.Guessed.the-variants as guessed
+use Rattle.scope.specs.Calls.{GuessesAsked, guessesTests, guessesAnswer}
+use Rattle.two_step_search.specs.Guessed.{rowsOf, guessesIn}
+use Rattle.two_step_search.specs.declared.Guesses.{Guesses}
+use Rattle.entry_two_step.specs.Answers.{guessedOf}
+use Rattle.entry_two_step.specs.declared.Guessed.the-variants as guessed
 use Rattle.changeforest_c.proofs.Heard.{never}
 
 abbrev pub Few : Answer (List ℕ) → Type 0
@@ -44,18 +45,18 @@ risen : (l : List ℕ) → length (rising l) ≤ length l
 risen [] = omega arith
 risen (x ∷ l) = omega (arith, above x l)
 
-few : (m : ℕ) (f : Option (List ℕ)) (a b : ℕ) → length (guesses m f a b) ≤ 3
+few : (short : Shortest) (f : Option (List ℕ)) (a b : ℕ) → length (guesses short f a b) ≤ 3
 unfolding guesses
-few m none a b = selected (λ x. isMember x (candidates m [] a b)) (quarters a b)
-few m (some ps) a b = risen (quartersOf (candidates m ps a b))
+few short none a b = selected (λ x. isMember x (candidates short [] a b)) (quarters a b)
+few short (some ps) a b = risen (quartersOf (candidates short ps a b))
 
 few-unless : (k : ℕ) (l : List ℕ) → length l ≤ 3 → Few (unless k l)
 few-unless zero l h = h
 few-unless (suc k) l h = tt
 
-pub few-answered : (n m : ℕ) (f : Option (List ℕ)) (a b : ℕ) → Few (guessesAnswer n m f a b)
+pub few-answered : (a : GuessesAsked) → Few (guessesAnswer a)
 unfolding guessesAnswer
-few-answered n m f a b = few-unless (firstOf (guessesTests n m f a b)) (guesses m f a b) (few m f a b)
+few-answered a = few-unless (firstOf (guessesTests a)) (guesses (a .shortest) (a .forbidden) (a .start) (a .stop)) (few (a .shortest) (a .forbidden) (a .start) (a .stop))
 
 -- what the struct of a list tells of it
 heard : (l : List ℕ) → length l ≤ 3 → (g : Guesses) → guessesIn l ≡ g → (l ≡ rowsOf g) × (g .count ≡ length l)

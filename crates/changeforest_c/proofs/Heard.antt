@@ -8,12 +8,14 @@ use Rattle.scope.specs.Calls.{Split, Tested}
 use Rattle.rows.specs.declared.Position.{Position}
 use Rattle.optimizer.specs.Records.{bestSplitOf}
 use Rattle.optimizer.specs.declared.optimizer_result.BestSplit.the-variants as best
-use Rattle.changeforest.specs.Answers.{lengthOf, countOf, gainedOf, permutedOf}
-use Rattle.changeforest.specs.declared.curves.TestResult.{TestResult}
-use Rattle.changeforest.specs.declared.curves.Permuted.the-variants as permuted
-use Rattle.changeforest.specs.declared.lengths.Length.the-variants as «length»
-use Rattle.changeforest.specs.declared.mean.Count.the-variants as count
-use Rattle.changeforest.specs.declared.mean.Gained.the-variants as gained
+use Rattle.entry_lengths.specs.Answers.{lengthOf}
+use Rattle.entry_mean.specs.Answers.{countOf, gainedOf}
+use Rattle.entry_curves.specs.Answers.{permutedOf}
+use Rattle.entry_curves.specs.declared.TestResult.{TestResult}
+use Rattle.entry_curves.specs.declared.Permuted.the-variants as permuted
+use Rattle.entry_lengths.specs.declared.Length.the-variants as «length»
+use Rattle.entry_mean.specs.declared.Count.the-variants as count
+use Rattle.entry_mean.specs.declared.Gained.the-variants as gained
 
 pub never : {X : Type 0} → _≡_ {A = ℕ} 0 1 → X
 never z = absurd (omega arith)

@@ -1,2 +1,2 @@
--- How an answer reaches a host: a number, and what is stored through a lent place.
-pub mod Told
+-- What each export answers, and what it stores.
+pub mod Stored

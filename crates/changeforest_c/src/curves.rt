@@ -1,11 +1,9 @@
 // Gain curves and the permutation test, exported.
-use changeforest::curves::Permuted;
-ghost use mathlib.Core.Path.{_≡_};
+use control::Shortest;
+use entry_curves::Permuted;
 ghost use mathlib.Core.List.{[], _∷_};
-ghost use lib.ListN.{length};
-ghost use Rattle.scope.specs.Lists.{holding};
-ghost use Rattle.scope.specs.Calls.{curveRefusal, curveTold, permutationAnswer};
-ghost use Rattle.changeforest_c.specs.Told.{numberOf, counterOr, pOr, significantOr};
+ghost use Rattle.entry_curves.specs.Left.{CurveLeft};
+ghost use Rattle.changeforest_c.specs.Stored.{PermutationStored};
 
 // The gain curve of two rows of likelihoods, into curve.
 #[no_mangle]
@@ -14,10 +12,9 @@ pub extern "C" fn changeforest_gain_from_likelihoods(
     l1: &[f64],
     curve: &mut [f64],
 ) -> u32
-    ensures answer { λ r. ⌜ r ≡ curveRefusal (now (l0 .entry)) (now (l1 .entry)) (length (now (curve .entry))) ⌝ }
-    ensures curve { λ _. ⌜ now (curve .exit) ≡ holding (curveTold (now (l0 .entry)) (now (l1 .entry)) (length (now (curve .entry)))) (now (curve .entry)) ⌝ }
+    ensures { λ r. ⌜ CurveLeft (now (l0 .entry)) (now (l1 .entry)) r (now (curve .entry)) (now (curve .exit)) ⌝ }
 {
-    changeforest::curves::gain_from_likelihoods(l0, l1, curve)
+    entry_curves::gain_from_likelihoods(l0, l1, curve)
 }
 
 // How many of p permutations reach the observed maximum (counted from 1), their share, and whether it is significant. Of three bases and
@@ -40,12 +37,9 @@ pub extern "C" fn changeforest_permutation_test(
     p_value: &mut f64,
     significant: &mut bool,
 ) -> u32
-    ensures answer { λ r. ⌜ r ≡ numberOf (permutationAnswer m alpha p maximum k (base0 ∷ base1 ∷ base2 ∷ []) (now (deltas0 .entry) ∷ now (deltas1 .entry) ∷ now (deltas2 .entry) ∷ []) (now (permutations .entry))) ⌝ }
-    ensures counter { λ _. ⌜ now (counter .exit) ≡ counterOr (permutationAnswer m alpha p maximum k (base0 ∷ base1 ∷ base2 ∷ []) (now (deltas0 .entry) ∷ now (deltas1 .entry) ∷ now (deltas2 .entry) ∷ []) (now (permutations .entry))) (now (counter .entry)) ⌝ }
-    ensures p_value { λ _. ⌜ now («p_value» .exit) ≡ pOr (permutationAnswer m alpha p maximum k (base0 ∷ base1 ∷ base2 ∷ []) (now (deltas0 .entry) ∷ now (deltas1 .entry) ∷ now (deltas2 .entry) ∷ []) (now (permutations .entry))) (now («p_value» .entry)) ⌝ }
-    ensures significant { λ _. ⌜ now (significant .exit) ≡ significantOr (permutationAnswer m alpha p maximum k (base0 ∷ base1 ∷ base2 ∷ []) (now (deltas0 .entry) ∷ now (deltas1 .entry) ∷ now (deltas2 .entry) ∷ []) (now (permutations .entry))) (now (significant .entry)) ⌝ }
+    ensures { λ r. ⌜ PermutationStored (record { shortest = record { m = m }; alpha = alpha; maximum = maximum; k = k; bases = base0 ∷ base1 ∷ base2 ∷ []; curves = now (deltas0 .entry) ∷ now (deltas1 .entry) ∷ now (deltas2 .entry) ∷ []; P = p; permutations = now (permutations .entry) }) r (now (counter .entry)) (now (counter .exit)) (now («p_value» .entry)) (now («p_value» .exit)) (now (significant .entry)) (now (significant .exit)) ⌝ }
 {
-    let answer = changeforest::curves::permutation_test(
+    let answer = entry_curves::permutation_test(
         deltas0,
         deltas1,
         deltas2,
@@ -55,7 +49,7 @@ pub extern "C" fn changeforest_permutation_test(
         k,
         permutations,
         p,
-        m,
+        Shortest { m },
         alpha,
         maximum,
     );

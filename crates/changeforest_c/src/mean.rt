@@ -1,13 +1,11 @@
 // Candidates, gain and search, exported.
-use changeforest::mean::Count;
-use changeforest::mean::Gained;
+use control::Shortest;
+use entry_mean::Count;
+use entry_mean::Gained;
 use optimizer::optimizer_result::BestSplit;
 use rows::Position;
-ghost use mathlib.Core.Path.{_≡_};
 ghost use lib.ListN.{length};
-ghost use Rattle.scope.specs.Lists.{holding};
-ghost use Rattle.scope.specs.Calls.{candidatesAnswer, candidatesTold, gainAnswer, gainSums, searchAnswer, searchSums};
-ghost use Rattle.changeforest_c.specs.Told.{numberOf, valueOr, splitOr, gainOr};
+ghost use Rattle.changeforest_c.specs.Stored.{CandidatesStored, GainStored, SearchStored};
 
 // The candidates of [start, stop), written into rows, and how many.
 #[no_mangle]
@@ -20,13 +18,11 @@ pub extern "C" fn changeforest_split_candidates(
     rows: &mut [usize],
     count: &mut usize,
 ) -> u32
-    ensures answer { λ r. ⌜ r ≡ numberOf (candidatesAnswer n m (now (forbidden .entry)) start stop (length (now (rows .entry)))) ⌝ }
-    ensures rows { λ _. ⌜ now (rows .exit) ≡ holding (candidatesTold n m (now (forbidden .entry)) start stop (length (now (rows .entry)))) (now (rows .entry)) ⌝ }
-    ensures count { λ _. ⌜ now (count .exit) ≡ valueOr (candidatesAnswer n m (now (forbidden .entry)) start stop (length (now (rows .entry)))) (now (count .entry)) ⌝ }
+    ensures { λ r. ⌜ CandidatesStored (record { n = n; shortest = record { m = m }; forbidden = now (forbidden .entry); start = start; stop = stop; room = length (now (rows .entry)) }) r (now (rows .entry)) (now (rows .exit)) (now (count .entry)) (now (count .exit)) ⌝ }
 {
-    let answer = changeforest::mean::split_candidates(
+    let answer = entry_mean::split_candidates(
         n,
-        m,
+        Shortest { m },
         forbidden,
         Position(start),
         Position(stop),
@@ -53,11 +49,9 @@ pub extern "C" fn changeforest_gain(
     sums: &mut [f64],
     gain: &mut f64,
 ) -> u32
-    ensures answer { λ r. ⌜ r ≡ numberOf (gainAnswer (now (cells .entry)) n d start stop split (length (now (sums .entry)))) ⌝ }
-    ensures sums { λ _. ⌜ now (sums .exit) ≡ holding (gainSums (now (cells .entry)) n d start stop split (length (now (sums .entry)))) (now (sums .entry)) ⌝ }
-    ensures gain { λ _. ⌜ now (gain .exit) ≡ valueOr (gainAnswer (now (cells .entry)) n d start stop split (length (now (sums .entry)))) (now (gain .entry)) ⌝ }
+    ensures { λ r. ⌜ GainStored (record { matrix = record { cells = now (cells .entry); n = n; d = d }; start = start; stop = stop; split = split; room = length (now (sums .entry)) }) r (now (sums .entry)) (now (sums .exit)) (now (gain .entry)) (now (gain .exit)) ⌝ }
 {
-    let answer = changeforest::mean::gain(
+    let answer = entry_mean::gain(
         cells,
         n,
         d,
@@ -89,16 +83,13 @@ pub extern "C" fn changeforest_find_best_split(
     split: &mut usize,
     gain: &mut f64,
 ) -> u32
-    ensures answer { λ r. ⌜ r ≡ numberOf (searchAnswer (now (cells .entry)) n d m (now (forbidden .entry)) start stop (length (now (sums .entry)))) ⌝ }
-    ensures sums { λ _. ⌜ now (sums .exit) ≡ holding (searchSums (now (cells .entry)) n d m (now (forbidden .entry)) start stop (length (now (sums .entry)))) (now (sums .entry)) ⌝ }
-    ensures split { λ _. ⌜ now (split .exit) ≡ splitOr (searchAnswer (now (cells .entry)) n d m (now (forbidden .entry)) start stop (length (now (sums .entry)))) (now (split .entry)) ⌝ }
-    ensures gain { λ _. ⌜ now (gain .exit) ≡ gainOr (searchAnswer (now (cells .entry)) n d m (now (forbidden .entry)) start stop (length (now (sums .entry)))) (now (gain .entry)) ⌝ }
+    ensures { λ r. ⌜ SearchStored (record { matrix = record { cells = now (cells .entry); n = n; d = d }; shortest = record { m = m }; forbidden = now (forbidden .entry); start = start; stop = stop; room = length (now (sums .entry)) }) r (now (sums .entry)) (now (sums .exit)) (now (split .entry)) (now (split .exit)) (now (gain .entry)) (now (gain .exit)) ⌝ }
 {
-    let answer = changeforest::mean::find_best_split(
+    let answer = entry_mean::find_best_split(
         cells,
         n,
         d,
-        m,
+        Shortest { m },
         forbidden,
         Position(start),
         Position(stop),

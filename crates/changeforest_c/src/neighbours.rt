@@ -1,9 +1,6 @@
 // The ordering and the predictions, exported.
 use rows::Position;
-ghost use mathlib.Core.Path.{_≡_};
-ghost use lib.ListN.{length};
-ghost use Rattle.scope.specs.Lists.{holding};
-ghost use Rattle.scope.specs.Calls.{orderingRefusal, orderingTold, distancesTold, predictRefusal, predictOrdering, predictDistances, predictTold};
+ghost use Rattle.entry_neighbours.specs.Left.{OrderingLeft, PredictLeft};
 
 // Each row's order of all rows into ordering, row after row; the last row's distances are left in distances.
 #[no_mangle]
@@ -14,11 +11,9 @@ pub extern "C" fn changeforest_ordering(
     ordering: &mut [u32],
     distances: &mut [f64],
 ) -> u32
-    ensures answer { λ r. ⌜ r ≡ orderingRefusal (now (cells .entry)) n d (length (now (ordering .entry))) (length (now (distances .entry))) ⌝ }
-    ensures ordering { λ _. ⌜ now (ordering .exit) ≡ holding (orderingTold (now (cells .entry)) n d (length (now (ordering .entry))) (length (now (distances .entry)))) (now (ordering .entry)) ⌝ }
-    ensures distances { λ _. ⌜ now (distances .exit) ≡ holding (distancesTold (now (cells .entry)) n d (length (now (ordering .entry))) (length (now (distances .entry)))) (now (distances .entry)) ⌝ }
+    ensures { λ r. ⌜ OrderingLeft (record { cells = now (cells .entry); n = n; d = d }) r (record { ordering = now (ordering .entry); distances = now (distances .entry) }) (record { ordering = now (ordering .exit); distances = now (distances .exit) }) ⌝ }
 {
-    changeforest::neighbours::ordering(cells, n, d, ordering, distances)
+    entry_neighbours::ordering(cells, n, d, ordering, distances)
 }
 
 // For each row of [start, stop), the share of its neighbours there at or past split, into predictions.
@@ -34,12 +29,9 @@ pub extern "C" fn changeforest_predict(
     distances: &mut [f64],
     predictions: &mut [f64],
 ) -> u32
-    ensures answer { λ r. ⌜ r ≡ predictRefusal (now (cells .entry)) n d start stop split (length (now (ordering .entry))) (length (now (distances .entry))) (length (now (predictions .entry))) ⌝ }
-    ensures ordering { λ _. ⌜ now (ordering .exit) ≡ holding (predictOrdering (now (cells .entry)) n d start stop split (length (now (ordering .entry))) (length (now (distances .entry))) (length (now (predictions .entry)))) (now (ordering .entry)) ⌝ }
-    ensures distances { λ _. ⌜ now (distances .exit) ≡ holding (predictDistances (now (cells .entry)) n d start stop split (length (now (ordering .entry))) (length (now (distances .entry))) (length (now (predictions .entry)))) (now (distances .entry)) ⌝ }
-    ensures predictions { λ _. ⌜ now (predictions .exit) ≡ holding (predictTold (now (cells .entry)) n d start stop split (length (now (ordering .entry))) (length (now (distances .entry))) (length (now (predictions .entry)))) (now (predictions .entry)) ⌝ }
+    ensures { λ r. ⌜ PredictLeft (record { cells = now (cells .entry); n = n; d = d }) start stop split r (record { order = record { ordering = now (ordering .entry); distances = now (distances .entry) }; predictions = now (predictions .entry) }) (record { order = record { ordering = now (ordering .exit); distances = now (distances .exit) }; predictions = now (predictions .exit) }) ⌝ }
 {
-    changeforest::neighbours::predict(
+    entry_neighbours::predict(
         cells,
         n,
         d,

@@ -1,14 +1,10 @@
 // The pick from a curve and the guesses, exported.
-use changeforest::two_step::Guessed;
+use control::Shortest;
+use entry_two_step::Guessed;
 use optimizer::optimizer_result::BestSplit;
-use optimizer::two_step_search::Guesses;
 use rows::Position;
-ghost use mathlib.Core.Path.{_≡_};
-ghost use lib.ListN.{getD};
-ghost use Rattle.scope.specs.Calls.{pickAnswer, guessesAnswer};
-ghost use Rattle.optimizer.specs.Guessed.{rowsOf};
-ghost use Rattle.changeforest.specs.Answers.{listGiven};
-ghost use Rattle.changeforest_c.specs.Told.{numberOf, splitOr, gainOr, entryOr, lengthOr};
+ghost use Rattle.entry_two_step.specs.Answers.{listGiven};
+ghost use Rattle.changeforest_c.specs.Stored.{PickStored, GuessesStored};
 
 // The candidate of [start, stop) with the greatest value of the curve, and that value; the guess and minus infinity if none is greater.
 #[no_mangle]
@@ -23,14 +19,12 @@ pub extern "C" fn changeforest_pick(
     split: &mut usize,
     gain: &mut f64,
 ) -> u32
-    ensures answer { λ r. ⌜ r ≡ numberOf (pickAnswer n m (now (forbidden .entry)) start stop guess (now (curve .entry))) ⌝ }
-    ensures split { λ _. ⌜ now (split .exit) ≡ splitOr (pickAnswer n m (now (forbidden .entry)) start stop guess (now (curve .entry))) (now (split .entry)) ⌝ }
-    ensures gain { λ _. ⌜ now (gain .exit) ≡ gainOr (pickAnswer n m (now (forbidden .entry)) start stop guess (now (curve .entry))) (now (gain .entry)) ⌝ }
+    ensures { λ r. ⌜ PickStored (record { n = n; shortest = record { m = m }; forbidden = now (forbidden .entry); start = start; stop = stop; guess = guess; curve = now (curve .entry) }) r (now (split .entry)) (now (split .exit)) (now (gain .entry)) (now (gain .exit)) ⌝ }
 {
-    let answer = changeforest::two_step::pick(
+    let answer = entry_two_step::pick(
         curve,
         n,
-        m,
+        Shortest { m },
         forbidden,
         Position(start),
         Position(stop),
@@ -44,26 +38,6 @@ pub extern "C" fn changeforest_pick(
         }
         BestSplit::Refused(no) => no,
     }
-}
-
-// Stores the first count of three rows; the other places stay.
-fn put_guesses(found: Guesses, first: &mut usize, second: &mut usize, third: &mut usize)
-    ensures first { λ _. ⌜ now (first .exit) ≡ getD (rowsOf found) 0 (now (first .entry)) ⌝ }
-    ensures second { λ _. ⌜ now (second .exit) ≡ getD (rowsOf found) 1 (now (second .entry)) ⌝ }
-    ensures third { λ _. ⌜ now (third .exit) ≡ getD (rowsOf found) 2 (now (third .entry)) ⌝ }
-{
-    if found.count == 0 {
-        return;
-    }
-    *first = found.first.0;
-    if found.count == 1 {
-        return;
-    }
-    *second = found.second.0;
-    if found.count == 2 {
-        return;
-    }
-    *third = found.third.0;
 }
 
 // One to three guesses for [start, stop), and how many. An empty forbidden list that is given is not the same as none.
@@ -80,15 +54,11 @@ pub extern "C" fn changeforest_guesses(
     third: &mut usize,
     count: &mut usize,
 ) -> u32
-    ensures answer { λ r. ⌜ r ≡ numberOf (guessesAnswer n m (listGiven given (now (forbidden .entry))) start stop) ⌝ }
-    ensures first { λ _. ⌜ now (first .exit) ≡ entryOr (guessesAnswer n m (listGiven given (now (forbidden .entry))) start stop) 0 (now (first .entry)) ⌝ }
-    ensures second { λ _. ⌜ now (second .exit) ≡ entryOr (guessesAnswer n m (listGiven given (now (forbidden .entry))) start stop) 1 (now (second .entry)) ⌝ }
-    ensures third { λ _. ⌜ now (third .exit) ≡ entryOr (guessesAnswer n m (listGiven given (now (forbidden .entry))) start stop) 2 (now (third .entry)) ⌝ }
-    ensures count { λ _. ⌜ now (count .exit) ≡ lengthOr (guessesAnswer n m (listGiven given (now (forbidden .entry))) start stop) (now (count .entry)) ⌝ }
+    ensures { λ r. ⌜ GuessesStored (record { n = n; shortest = record { m = m }; forbidden = listGiven given (now (forbidden .entry)); start = start; stop = stop }) r (now (first .entry)) (now (first .exit)) (now (second .entry)) (now (second .exit)) (now (third .entry)) (now (third .exit)) (now (count .entry)) (now (count .exit)) ⌝ }
 {
-    let answer = changeforest::two_step::guesses(
+    let answer = entry_two_step::guesses(
         n,
-        m,
+        Shortest { m },
         given,
         forbidden,
         Position(start),
@@ -96,7 +66,7 @@ pub extern "C" fn changeforest_guesses(
     );
     match answer {
         Guessed::Rows(found) => {
-            put_guesses(found, first, second, third);
+            told::put_guesses(found, first, second, third);
             *count = found.count;
             0
         }

@@ -25,6 +25,27 @@ passed (test true (suc k) ∷ ts) h e = absurd (omega arith)
 passed (test false zero ∷ ts) h e = absurd h
 passed (test false (suc k) ∷ ts) h e = (refl, passed ts h e)
 
+-- ---- "The lowest number that applies": from the answers to the first tests
+
+-- the first tests of ts have the answers bs
+abbrev pub Answered : List Test → List Bool → Type 0
+Answered ts [] = Unit {0}
+Answered [] (b ∷ bs) = Unit {0}
+Answered (test t k ∷ ts) (b ∷ bs) = (t ≡ b) × Answered ts bs
+
+-- the number of the first yes; without one, that of the tests left
+abbrev pub heard : List Test → List Bool → ℕ
+heard ts [] = firstOf ts
+heard [] (b ∷ bs) = 0
+heard (test t k ∷ ts) (true ∷ bs) = k
+heard (test t k ∷ ts) (false ∷ bs) = heard ts bs
+
+pub answers : (ts : List Test) (bs : List Bool) → Answered ts bs → heard ts bs ≡ firstOf ts
+answers ts [] h = refl
+answers [] (b ∷ bs) h = refl
+answers (test t k ∷ ts) (true ∷ bs) h = rw (h .0)
+answers (test t k ∷ ts) (false ∷ bs) h = rw (h .0) (answers ts bs (h .1))
+
 -- of two lists, the first where it gives a number, else the second
 pub stops : (xs ys : List Test) → (firstOf xs ≡ 0 → ⊥) → firstOf xs ≡ firstOf (xs ++ ys)
 stops [] ys h = absurd (h refl)

@@ -3,3 +3,4 @@ pub mod Values
 pub mod Pairs
 pub mod Sizes
 pub mod Clean
+pub mod Follows

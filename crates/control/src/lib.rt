@@ -3,12 +3,14 @@
 use rows::Position;
 ghost use mathlib.Core.Path.{_≡_};
 ghost use mathlib.Core.Bool.{Bool, true, false};
+ghost use mathlib.Core.List.{[], _∷_};
 ghost use Prim.Native.Nat.{_+_, _*_, _/_, _≤_, min};
 ghost use lib.Ieee.{isNan};
 ghost use Rattle.scope.specs.Floats.{isFinite};
 ghost use Rattle.scope.specs.Lists.{every};
 ghost use Rattle.scope.specs.Tree.{mostNodes};
-ghost use Rattle.scope.specs.Refusals.{outside, wrongMatrix, isBetween, wellPaired, wrongSegment, wrongSplit};
+ghost use Rattle.scope.specs.Refusals.{firstOf, mostRows, outside, wrongMatrix, isBetween, wellPaired, wrongSegment, wrongSplit, no1, no1-rows, no2, no4, no5};
+ghost use Rattle.control.specs.Settings.{shortestOf};
 
 // Sizes.
 pub const MOST_ROWS: usize = 4096;
@@ -18,6 +20,17 @@ pub const MOST_COLUMNS: usize = 64;
 pub const MOST_LENGTH: usize = 4096;
 
 pub const MOST_NEIGHBOURS: usize = 1024;
+
+// The shortest part that a split may leave: m rows.
+pub struct Shortest {
+    pub m: usize,
+}
+
+// The numbers that a run is asked with; its lists are lent beside them.
+pub struct Settings {
+    pub shortest: Shortest,
+    pub threshold: f64,
+}
 
 // Whether v is not one of 1 to most.
 pub fn is_outside(most: usize, v: usize) -> bool
@@ -112,15 +125,15 @@ pub fn wrong_split(start: Position, stop: Position, split: Position) -> bool
     split.0 < start.0 || stop.0 < split.0
 }
 
-// B, the most nodes that a tree of n rows with minimal length m has.
-pub fn most_nodes(n: usize, m: usize) -> usize
-    requires { ⌜ (n ≤ 4096) × (1 ≤ m) ⌝ }
-    ensures { λ r. ⌜ (r ≡ mostNodes n m) × (r ≤ 8192) ⌝ }
+// B, the most nodes that a tree of n rows has.
+pub fn most_nodes(n: usize, shortest: Shortest) -> usize
+    requires { ⌜ (n ≤ 4096) × (1 ≤ shortest .m) ⌝ }
+    ensures { λ r. ⌜ (r ≡ mostNodes n (shortestOf shortest)) × (r ≤ 8192) ⌝ }
 {
     if n < 1 {
         return 1;
     }
-    let q = (n - 1) / m;
+    let q = (n - 1) / shortest.m;
     if q < 1 {
         return 1;
     }
@@ -133,4 +146,48 @@ pub fn record_room(rows: usize, gains: usize) -> usize
 {
     let threes = rows / 3;
     if threes < gains { threes } else { gains }
+}
+
+// ---- the tests that several calls begin with, in number order: the number that applies, or 0
+
+// 1 and 2: a matrix and the shortest part.
+pub fn sizes_refusal(cells: &[f64], n: usize, d: usize, shortest: Shortest) -> u32
+    ensures { λ r. ⌜ r ≡ firstOf (no1 mostRows (record { cells = now (cells .entry); n = n; d = d }) ∷ no2 (shortestOf shortest) ∷ []) ⌝ }
+{
+    if wrong_matrix(cells, n, d, MOST_ROWS) {
+        return 1;
+    }
+    if is_outside(MOST_LENGTH, shortest.m) {
+        return 2;
+    }
+    0
+}
+
+// 4 and 5: cells and forbidden pairs.
+pub fn values_refusal(cells: &[f64], forbidden: &[usize]) -> u32
+    ensures { λ r. ⌜ r ≡ firstOf (no4 (now (cells .entry)) ∷ no5 (now (forbidden .entry)) ∷ []) ⌝ }
+{
+    if !all_finite(cells) {
+        return 4;
+    }
+    if !well_paired(forbidden) {
+        return 5;
+    }
+    0
+}
+
+// 1, 2 and 5 where there is no matrix.
+pub fn rows_refusal(n: usize, shortest: Shortest, forbidden: &[usize]) -> u32
+    ensures { λ r. ⌜ r ≡ firstOf (no1-rows n ∷ no2 (shortestOf shortest) ∷ no5 (now (forbidden .entry)) ∷ []) ⌝ }
+{
+    if is_outside(MOST_ROWS, n) {
+        return 1;
+    }
+    if is_outside(MOST_LENGTH, shortest.m) {
+        return 2;
+    }
+    if !well_paired(forbidden) {
+        return 5;
+    }
+    0
 }

@@ -12,6 +12,7 @@ use Rattle.scope.specs.Floats.{lowest}
 use Rattle.scope.specs.Lists.{_∈_, isEmpty}
 use Rattle.scope.specs.Allowed.{Allowed}
 use Rattle.scope.specs.Refusals.{Answer, refused, given, unless, firstOf, no9}
+use Rattle.scope.specs.Asked.{Shortest}
 use Rattle.scope.specs.Candidates.{candidates, no10}
 use Rattle.scope.specs.Greatest.{numeric, FirstGreatest, kept, taken}
 use Rattle.scope.specs.Grid.{Record, blank, best, trial, trials, ofSome, search}
@@ -26,25 +27,25 @@ use Rattle.optimizer.proofs.Walk.{best-ends}
 abbrev pub recordOf : ℕ → ℕ → Split → Record
 recordOf start stop s = record { start = start; stop = stop; split = s .split; gain = s .gain }
 
-module _ (gain : ℕ → ℕ → ℕ → Float) (m : ℕ) (ps : List ℕ) (start stop : ℕ) where
+module _ (gain : ℕ → ℕ → ℕ → Float) (short : Shortest) (ps : List ℕ) (start stop : ℕ) where
   abbrev answer : Answer Split
-  answer = searched gain m ps start stop
+  answer = searched gain short ps start stop
 
   abbrev tries : List Record
-  tries = trials gain m ps start stop
+  tries = trials gain short ps start stop
 
   -- the answer for a list of candidates
   abbrev answered : List ℕ → Answer Split
-  answered l = unless (cond (isEmpty l) (cond (leb (stop - start) (2 * m)) 9 10) 0) (splitOf (best (blank start stop) (map (trial gain start stop) l)))
+  answered l = unless (cond (isEmpty l) (cond (leb (stop - start) (2 * short .m)) 9 10) 0) (splitOf (best (blank start stop) (map (trial gain start stop) l)))
 
   abbrev recorded : List ℕ → Option Record
   recorded l = ofSome (blank start stop) (map (trial gain start stop) l)
 
-  answer-is : answer ≡ answered (candidates m ps start stop)
+  answer-is : answer ≡ answered (candidates short ps start stop)
   unfolding searched trials
   answer-is = rw refusal-9-10
 
-  search-is : search gain m ps start stop ≡ recorded (candidates m ps start stop)
+  search-is : search gain short ps start stop ≡ recorded (candidates short ps start stop)
   unfolding search trials
   search-is = refl
 
@@ -56,11 +57,11 @@ module _ (gain : ℕ → ℕ → ℕ → Float) (m : ℕ) (ps : List ℕ) (start
   same-record r h k = rw (← h, ← k)
 
   -- a split is found: the search has its record
-  pub found-search : (s : Split) → answer ≡ given s → search gain m ps start stop ≡ some (recordOf start stop s)
-  found-search s h = search-is ∙ go (candidates m ps start stop) (sym answer-is ∙ h)
+  pub found-search : (s : Split) → answer ≡ given s → search gain short ps start stop ≡ some (recordOf start stop s)
+  found-search s h = search-is ∙ go (candidates short ps start stop) (sym answer-is ∙ h)
     where
       go : (l : List ℕ) → answered l ≡ given s → recorded l ≡ some (recordOf start stop s)
-      go [] e = let (k, w) = two (leb (stop - start) (2 * m)) (splitOf (best (blank start stop) [])) in let z : _≡_ {A = ℕ} 0 1 = cc in absurd (omega arith)
+      go [] e = let (k, w) = two (leb (stop - start) (2 * short .m)) (splitOf (best (blank start stop) [])) in let z : _≡_ {A = ℕ} 0 1 = cc in absurd (omega arith)
       go (x ∷ l) e =
           let r = best (blank start stop) (map (trial gain start stop) (x ∷ l)) in
           let (i, j) = best-ends gain start stop (blank start stop) (x ∷ l) refl refl in
@@ -68,18 +69,18 @@ module _ (gain : ℕ → ℕ → ℕ → Float) (m : ℕ) (ps : List ℕ) (start
           ap some (same-record r i j ∙ ap (recordOf start stop) w)
 
   -- a number: the search has none
-  pub refused-search : (k : ℕ) → answer ≡ refused k → search gain m ps start stop ≡ none
-  refused-search k h = search-is ∙ go (candidates m ps start stop) (sym answer-is ∙ h)
+  pub refused-search : (k : ℕ) → answer ≡ refused k → search gain short ps start stop ≡ none
+  refused-search k h = search-is ∙ go (candidates short ps start stop) (sym answer-is ∙ h)
     where
       go : (l : List ℕ) → answered l ≡ refused k → recorded l ≡ none
       go [] e = refl
       go (x ∷ l) e = let z : _≡_ {A = ℕ} 0 1 = cc in absurd (omega arith)
 
   -- ---- "a refusal 9 or 10 exactly if no row is allowed"
-  pub refused-exactly : ((k : ℕ) × (answer ≡ refused k)) ↔ ((x : ℕ) → Allowed m ps start stop x → ⊥)
+  pub refused-exactly : ((k : ℕ) × (answer ≡ refused k)) ↔ ((x : ℕ) → Allowed short ps start stop x → ⊥)
   refused-exactly = (
-    λ w x a. there (candidates m ps start stop) (w .0) (sym answer-is ∙ w .1) x (candidates-are m ps start stop x .1 a),
-    λ f. let (k, e) = back (candidates m ps start stop) (λ x i. f x (candidates-are m ps start stop x .0 i)) in (k, answer-is ∙ e),
+    λ w x a. there (candidates short ps start stop) (w .0) (sym answer-is ∙ w .1) x (candidates-are short ps start stop x .1 a),
+    λ f. let (k, e) = back (candidates short ps start stop) (λ x i. f x (candidates-are short ps start stop x .0 i)) in (k, answer-is ∙ e),
   )
     where
       there : (l : List ℕ) (k : ℕ) → answered l ≡ refused k → (x : ℕ) → x ∈ l → ⊥
@@ -87,7 +88,7 @@ module _ (gain : ℕ → ℕ → ℕ → Float) (m : ℕ) (ps : List ℕ) (start
       there (y ∷ l) k e x i = let z : _≡_ {A = ℕ} 0 1 = cc in omega arith
 
       back : (l : List ℕ) → ((x : ℕ) → x ∈ l → ⊥) → (k : ℕ) × (answered l ≡ refused k)
-      back [] f = two (leb (stop - start) (2 * m)) (splitOf (best (blank start stop) []))
+      back [] f = two (leb (stop - start) (2 * short .m)) (splitOf (best (blank start stop) []))
       back (x ∷ l) f = absurd (f x (List·Memᴰ·head refl))
 
   -- ---- "its gain is the first of the greatest numeric gains"
@@ -101,21 +102,21 @@ module _ (gain : ℕ → ℕ → ℕ → Float) (m : ℕ) (ps : List ℕ) (start
         go (x ∷ l) h f = let w : best (blank start stop) (x ∷ l) ≡ recordOf start stop s = cc in rw w at f
 
     -- "a found split is an allowed row": wherever its gain is above minus infinity
-    pub found-allowed : lt lowest (s .gain) ≡ true → Allowed m ps start stop (s .split) × (s .gain ≡ gain start stop (s .split))
+    pub found-allowed : lt lowest (s .gain) ≡ true → Allowed short ps start stop (s .split) × (s .gain ≡ gain start stop (s .split))
     unfolding trials
     found-allowed h = go found-first
       where
-        go : FirstGreatest (blank start stop) tries (recordOf start stop s) → Allowed m ps start stop (s .split) × (s .gain ≡ gain start stop (s .split))
+        go : FirstGreatest (blank start stop) tries (recordOf start stop s) → Allowed short ps start stop (s .split) × (s .gain ≡ gain start stop (s .split))
         go (kept e n) = both h (rw (ap (λ (r : Record). r .gain) e) (lt-irrefl lowest))
         go (taken earlier later e g b n) =
             let i : recordOf start stop s ∈ tries = rw e (mathlib.Core.List.Memᴰ·append-right earlier (List·Memᴰ·head refl)) in
-            let (x, j, w) = Memᴰ·of-map (trial gain start stop) (candidates m ps start stop) i in
+            let (x, j, w) = Memᴰ·of-map (trial gain start stop) (candidates short ps start stop) i in
             let same : x ≡ s .split = ap (λ (r : Record). r .split) w in
             let own : gain start stop x ≡ s .gain = ap (λ (r : Record). r .gain) w in
-            (rw same at (candidates-are m ps start stop x .0 j), sym own ∙ rw same)
+            (rw same at (candidates-are short ps start stop x .0 j), sym own ∙ rw same)
 
     -- "all NaN leaves split 0 and minus infinity"
-    pub found-nan : ((x : ℕ) → Allowed m ps start stop x → numeric (gain start stop x) ≡ false) → (s .split ≡ 0) × (s .gain ≡ lowest)
+    pub found-nan : ((x : ℕ) → Allowed short ps start stop x → numeric (gain start stop x) ≡ false) → (s .split ≡ 0) × (s .gain ≡ lowest)
     found-nan nans = go (lt lowest (s .gain)) refl found-first
       where
         go : (b : Bool) → lt lowest (s .gain) ≡ b → FirstGreatest (blank start stop) tries (recordOf start stop s) → (s .split ≡ 0) × (s .gain ≡ lowest)

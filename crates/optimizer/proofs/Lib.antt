@@ -2,4 +2,3 @@
 pub mod Barred
 pub mod Walk
 pub mod Found
-pub mod Guessing

@@ -12,6 +12,7 @@ use lib.Ieee.{Float, lt}
 use lib.ListN.{length, getD, drop, set, length-set, length-append}
 use lib.Seq.{getD-append-seam}
 use Rattle.scope.specs.Lists.{holding, upward, select, keep, isEmpty}
+use Rattle.scope.specs.Asked.{Shortest}
 use Rattle.scope.specs.Candidates.{isBarred, rangeSize, candidates, allBarred}
 use Rattle.scope.specs.Grid.{Record, better, best, blank, trial, trials}
 use Rattle.scope.proofs.Lists.{select-append}
@@ -22,9 +23,9 @@ use Rattle.optimizer.specs.Records.{tried}
 unfoldable pub walked : List ℕ → ℕ → ℕ → List ℕ
 walked ps lo k = select (λ x. not (isBarred ps x)) (upward lo k)
 
-pub walked-all : (m : ℕ) (ps : List ℕ) (a e : ℕ) → walked ps (a + m) (rangeSize m a e) ≡ candidates m ps a e
+pub walked-all : (short : Shortest) (ps : List ℕ) (a e : ℕ) → walked ps (a + short .m) (rangeSize short a e) ≡ candidates short ps a e
 unfolding walked candidates
-walked-all m ps a e = refl
+walked-all short ps a e = refl
 
 walked-next : (ps : List ℕ) (lo k : ℕ) (b : Bool) → isBarred ps (lo + k) ≡ b → walked ps lo (k + 1) ≡ walked ps lo k ++ keep (not b) (lo + k) []
 unfolding walked upward select
@@ -55,9 +56,9 @@ walked-few ps lo (suc k) = rw (← add-one) (go (isBarred ps (lo + k)) refl (wal
     go true h l = omega (arith, count-barred ps lo k (length (walked ps lo k)) h refl)
     go false h l = omega (arith, count-free ps lo k (length (walked ps lo k)) h refl)
 
-pub candidates-few : (m : ℕ) (ps : List ℕ) (a e : ℕ) → length (candidates m ps a e) ≤ e
+pub candidates-few : (short : Shortest) (ps : List ℕ) (a e : ℕ) → length (candidates short ps a e) ≤ e
 unfolding rangeSize
-candidates-few m ps a e = rw (← walked-all m ps a e) (omega (arith, walked-few ps (a + m) (rangeSize m a e)))
+candidates-few short ps a e = rw (← walked-all short ps a e) (omega (arith, walked-few ps (a + short .m) (rangeSize short a e)))
 
 -- what was walked stays at the front
 walked-front : (ps : List ℕ) (lo k j : ℕ) → (t : List ℕ) × (walked ps lo (k + j) ≡ walked ps lo k ++ t)
@@ -72,13 +73,13 @@ walked-front ps lo k (suc j) = let (t, e) = walked-front ps lo k j in go t e (is
     go t e false h = (t ++ ((lo + (k + j)) ∷ []), rw (last, walked-free ps lo (k + j) h, e, append-assoc))
 
 -- a free row is the candidate whose number is how many were walked before it
-pub numbered : (m : ℕ) (ps : List ℕ) (a e k : ℕ) → k < rangeSize m a e → isBarred ps (a + m + k) ≡ false → a + m + k ≡ getD (candidates m ps a e) (length (walked ps (a + m) k)) 0
-numbered m ps a e k l h =
-    let s = rangeSize m a e in
+pub numbered : (short : Shortest) (ps : List ℕ) (a e k : ℕ) → k < rangeSize short a e → isBarred ps (a + short .m + k) ≡ false → a + short .m + k ≡ getD (candidates short ps a e) (length (walked ps (a + short .m) k)) 0
+numbered short ps a e k l h =
+    let s = rangeSize short a e in
     let j : s ≡ k + 1 + (s - (k + 1)) = omega arith in
-    let (t, w) = walked-front ps (a + m) (k + 1) (s - (k + 1)) in
-    let all : candidates m ps a e ≡ walked ps (a + m) k ++ ((a + m + k) ∷ t) = sym (walked-all m ps a e) ∙ ap (walked ps (a + m)) j ∙ w ∙ rw (walked-free ps (a + m) k h, append-assoc) in
-    rw all (sym (getD-append-seam (walked ps (a + m) k) (a + m + k) t 0))
+    let (t, w) = walked-front ps (a + short .m) (k + 1) (s - (k + 1)) in
+    let all : candidates short ps a e ≡ walked ps (a + short .m) k ++ ((a + short .m + k) ∷ t) = sym (walked-all short ps a e) ∙ ap (walked ps (a + short .m)) j ∙ w ∙ rw (walked-free ps (a + short .m) k h, append-assoc) in
+    rw all (sym (getD-append-seam (walked ps (a + short .m) k) (a + short .m + k) t 0))
 
 -- ---- stored: after k rows, count candidates stand at the front of the slice
 pub record State (ps : List ℕ) (lo size : ℕ) (out₀ out : List ℕ) (count k : ℕ) : Type 0 where
@@ -160,9 +161,9 @@ module _ (gain : ℕ → ℕ → ℕ → Float) (ps : List ℕ) (a e : ℕ) (b :
       ∙ ap (λ (z : Record). better z (trial gain a e (lo + k))) i
       ∙ best-free lo k h
 
-  pub best-all : (m : ℕ) → bestWalked b gain ps a e (a + m) (rangeSize m a e) ≡ best b (trials gain m ps a e)
+  pub best-all : (short : Shortest) → bestWalked b gain ps a e (a + short .m) (rangeSize short a e) ≡ best b (trials gain short ps a e)
   unfolding bestWalked trials
-  best-all m = rw walked-all
+  best-all short = rw walked-all
 
 -- ---- all barred
 pub none-walked : (ps : List ℕ) (lo k : ℕ) → isBarred ps (lo + k) ≡ true → isEmpty (walked ps lo k) ≡ true → isEmpty (walked ps lo (k + 1)) ≡ true
@@ -188,17 +189,17 @@ some-walked ps lo k (suc j) h = go (isBarred ps (lo + (k + 1 + j))) refl (some-w
     go true e r = rw (last, walked-barred ps lo (k + 1 + j) e) r
     go false e r = rw (last, walked-free ps lo (k + 1 + j) e) (some-end (walked ps lo (k + 1 + j)) _)
 
-pub barred-some : (m : ℕ) (ps : List ℕ) (a e k : ℕ) → k < rangeSize m a e → isBarred ps (a + m + k) ≡ false → allBarred m ps a e ≡ false
+pub barred-some : (short : Shortest) (ps : List ℕ) (a e k : ℕ) → k < rangeSize short a e → isBarred ps (a + short .m + k) ≡ false → allBarred short ps a e ≡ false
 unfolding allBarred
-barred-some m ps a e k l h =
-    let s = rangeSize m a e in
+barred-some short ps a e k l h =
+    let s = rangeSize short a e in
     let j : s ≡ k + 1 + (s - (k + 1)) = omega arith in
-    let some : isEmpty (candidates m ps a e) ≡ false = sym (ap isEmpty (walked-all m ps a e)) ∙ ap (λ (z : ℕ). isEmpty (walked ps (a + m) z)) j ∙ some-walked ps (a + m) k (s - (k + 1)) h in
+    let some : isEmpty (candidates short ps a e) ≡ false = sym (ap isEmpty (walked-all short ps a e)) ∙ ap (λ (z : ℕ). isEmpty (walked ps (a + short .m) z)) j ∙ some-walked ps (a + short .m) k (s - (k + 1)) h in
     rw (lt-ltb 0 s (omega arith), some)
 
-pub barred-all : (m : ℕ) (ps : List ℕ) (a e : ℕ) → isEmpty (walked ps (a + m) (rangeSize m a e)) ≡ true → ltb 0 (rangeSize m a e) ≡ allBarred m ps a e
+pub barred-all : (short : Shortest) (ps : List ℕ) (a e : ℕ) → isEmpty (walked ps (a + short .m) (rangeSize short a e)) ≡ true → ltb 0 (rangeSize short a e) ≡ allBarred short ps a e
 unfolding allBarred
-barred-all m ps a e h = rw (← walked-all m ps a e, h) (go (ltb 0 (rangeSize m a e)))
+barred-all short ps a e h = rw (← walked-all short ps a e, h) (go (ltb 0 (rangeSize short a e)))
   where
     go : (b : Bool) → b ≡ b && true
     go true = refl

@@ -3,6 +3,7 @@ use mathlib.Core.List.{List, [], _∷_}
 use Prim.Native.Nat.{ℕ, _-_}
 use lib.Ieee.{Float}
 use Rattle.scope.specs.Floats.{lowest}
+use Rattle.scope.specs.Asked.{Shortest}
 use Rattle.scope.specs.Refusals.{Answer, refused, given, unless, firstOf, no9}
 use Rattle.scope.specs.Candidates.{no10}
 use Rattle.scope.specs.Grid.{Record, blank, best, trials}
@@ -29,6 +30,6 @@ bestSplitOf (refused k) = Refused k
 bestSplitOf (given s) = Found (record { 0 = s .split }) (s .gain)
 
 -- what a search of [start, stop) answers, once nothing lower than 9 applies
-unfoldable pub searched : (ℕ → ℕ → ℕ → Float) → ℕ → List ℕ → ℕ → ℕ → Answer Split
-searched gain m forbidden start stop =
-    unless (firstOf (no9 m (stop - start) ∷ no10 m forbidden start stop ∷ [])) (splitOf (best (blank start stop) (trials gain m forbidden start stop)))
+unfoldable pub searched : (ℕ → ℕ → ℕ → Float) → Shortest → List ℕ → ℕ → ℕ → Answer Split
+searched gain short forbidden start stop =
+    unless (firstOf (no9 short (stop - start) ∷ no10 short forbidden start stop ∷ [])) (splitOf (best (blank start stop) (trials gain short forbidden start stop)))

@@ -1,5 +1,3 @@
-// Which row of a segment to split at: its candidates, and the search over them. Inside the library. After the folder optimizer/ of the Rust.
+// Which rows of a segment may be split, and what a search answers with. Inside the library. After optimizer.rs and optimizer_result.rs.
 pub mod candidates;
-pub mod grid_search;
 pub mod optimizer_result;
-pub mod two_step_search;

@@ -9,6 +9,7 @@ use native.Mathlib.Omega.{arith}
 use borrow.Author.Tests.{ltb-true, leb-true, lt-ltb, le-leb, leb-false, ltb-false}
 use lib.Dec.{ltb, leb}
 use Rattle.scope.specs.Lists.{upward, keep, select, isEmpty}
+use Rattle.scope.specs.Asked.{Shortest}
 use Rattle.scope.specs.Refusals.{test, firstOf, no9}
 use Rattle.scope.specs.Candidates.{isBarred, rangeSize, candidates, allBarred, no10}
 use Rattle.scope.specs.Allowed.{Pair, here, later, Allowed, Ascending}
@@ -40,15 +41,15 @@ not-true true h = absurd (false≢true h)
 not-true false h = refl
 
 -- ---- the list holds exactly the allowed rows
-pub candidates-are : (m : ℕ) (forbidden : List ℕ) (start stop x : ℕ) → List·Memᴰ x (candidates m forbidden start stop) ↔ Allowed m forbidden start stop x
+pub candidates-are : (s : Shortest) (forbidden : List ℕ) (start stop x : ℕ) → List·Memᴰ x (candidates s forbidden start stop) ↔ Allowed s forbidden start stop x
 unfolding candidates rangeSize
-candidates-are m ps start stop x = (
+candidates-are s ps start stop x = (
   λ i.
-      let (j, t) = select-are (λ y. not (isBarred ps y)) (upward (start + m) (stop - start - 2 * m)) x i in
-      let (l, h) = upward-are (start + m) (stop - start - 2 * m) x .0 j in
+      let (j, t) = select-are (λ y. not (isBarred ps y)) (upward (start + s .m) (stop - start - 2 * s .m)) x i in
+      let (l, h) = upward-are (start + s .m) (stop - start - 2 * s .m) x .0 j in
       record { low = l; high = omega arith; free = free-of ps x (not-true (isBarred ps x) t) },
   λ w.
-      select-all (λ y. not (isBarred ps y)) (upward (start + m) (stop - start - 2 * m)) x (upward-are (start + m) (stop - start - 2 * m) x .1 (w .low, omega arith)) (ap not (barred-not ps x (w .free))),
+      select-all (λ y. not (isBarred ps y)) (upward (start + s .m) (stop - start - 2 * s .m)) x (upward-are (start + s .m) (stop - start - 2 * s .m) x .1 (w .low, omega arith)) (ap not (barred-not ps x (w .free))),
 )
 
 -- ---- ascending
@@ -65,25 +66,25 @@ ascending-select p lo (suc k) = rw (select-append p (upward lo k) ((lo + k) ∷ 
     go true a = ascending-end lo (select p (upward lo k)) (lo + k) (omega arith) (λ x i. upward-are lo k x .0 (select-are p (upward lo k) x i .0) .1) a
     go false a = rw mathlib.Core.List.append-nil a
 
-pub candidates-ascend : (m : ℕ) (forbidden : List ℕ) (start stop : ℕ) → Ascending (start + m) (candidates m forbidden start stop)
+pub candidates-ascend : (s : Shortest) (forbidden : List ℕ) (start stop : ℕ) → Ascending (start + s .m) (candidates s forbidden start stop)
 unfolding candidates
-candidates-ascend m ps start stop = ascending-select (λ x. not (isBarred ps x)) (start + m) (rangeSize m start stop)
+candidates-ascend s ps start stop = ascending-select (λ x. not (isBarred ps x)) (start + s .m) (rangeSize s start stop)
 
 -- ---- "Refused exactly if no such row exists, by 9 or 10."
-none-in : (m : ℕ) (ps : List ℕ) (start stop : ℕ) → stop - start ≤ 2 * m → isEmpty (candidates m ps start stop) ≡ true
+none-in : (s : Shortest) (ps : List ℕ) (start stop : ℕ) → stop - start ≤ 2 * s .m → isEmpty (candidates s ps start stop) ≡ true
 unfolding candidates rangeSize upward select
-none-in m ps start stop h = let e : stop - start - 2 * m ≡ 0 = omega arith in rw e
+none-in s ps start stop h = let e : stop - start - 2 * s .m ≡ 0 = omega arith in rw e
 
-pub refusal-9-10 : (m : ℕ) (forbidden : List ℕ) (start stop : ℕ)
-    → firstOf (no9 m (stop - start) ∷ no10 m forbidden start stop ∷ []) ≡ cond (isEmpty (candidates m forbidden start stop)) (cond (leb (stop - start) (2 * m)) 9 10) 0
+pub refusal-9-10 : (s : Shortest) (forbidden : List ℕ) (start stop : ℕ)
+    → firstOf (no9 s (stop - start) ∷ no10 s forbidden start stop ∷ []) ≡ cond (isEmpty (candidates s forbidden start stop)) (cond (leb (stop - start) (2 * s .m)) 9 10) 0
 unfolding rangeSize allBarred
-refusal-9-10 m ps start stop = go (leb (stop - start) (2 * m)) refl
+refusal-9-10 s ps start stop = go (leb (stop - start) (2 * s .m)) refl
   where
     some : (b : Bool) → firstOf (test b 10 ∷ []) ≡ cond b 10 0
     some true = refl
     some false = refl
 
-    go : (b : Bool) → leb (stop - start) (2 * m) ≡ b
-        → firstOf (test b 9 ∷ test (ltb 0 (stop - start - 2 * m) && isEmpty (candidates m ps start stop)) 10 ∷ []) ≡ cond (isEmpty (candidates m ps start stop)) (cond b 9 10) 0
-    go true e = rw (none-in m ps start stop (leb-true _ _ e))
-    go false e = let long = leb-false (stop - start) (2 * m) e in let pos : 0 < stop - start - 2 * m = omega arith in rw (lt-ltb 0 (stop - start - 2 * m) pos) (some (isEmpty (candidates m ps start stop)))
+    go : (b : Bool) → leb (stop - start) (2 * s .m) ≡ b
+        → firstOf (test b 9 ∷ test (ltb 0 (stop - start - 2 * s .m) && isEmpty (candidates s ps start stop)) 10 ∷ []) ≡ cond (isEmpty (candidates s ps start stop)) (cond b 9 10) 0
+    go true e = rw (none-in s ps start stop (leb-true _ _ e))
+    go false e = let long = leb-false (stop - start) (2 * s .m) e in let pos : 0 < stop - start - 2 * s .m = omega arith in rw (lt-ltb 0 (stop - start - 2 * s .m) pos) (some (isEmpty (candidates s ps start stop)))

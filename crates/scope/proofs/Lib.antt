@@ -2,6 +2,7 @@
 pub mod Order
 pub mod Lists
 pub mod Members
+pub mod Every
 pub mod Lowest
 pub mod Candidates
 pub mod Sums

@@ -10,7 +10,7 @@ use borrow.Author.Tests.{leb-true}
 use lib.Dec.{leb}
 use lib.Ieee.{Float}
 use Rattle.scope.specs.Refusals.{Test, test, firstOf}
-use Rattle.scope.specs.Calls.{lengthTests, candidatesTests, gainTests, searchTests, seededTests, Room, treeTests, orderingTests, predictTests, curveTests, pickTests, guessesTests, permutationTests}
+use Rattle.scope.specs.Calls.{lengthTests, CandidatesAsked, candidatesTests, GainAsked, gainTests, SearchAsked, searchTests, SeededAsked, seededTests, TreeAsked, treeTests, OrderingAsked, orderingTests, PredictAsked, predictTests, CurveAsked, curveTests, PickAsked, pickTests, GuessesAsked, guessesTests, PermutationAsked, permutationTests}
 use Rattle.scope.specs.Program.{Deck, deckTests}
 use Rattle.scope.proofs.Members.{first-of, second-of}
 
@@ -64,33 +64,33 @@ lowest ts h = lowest-from ts 1 h (omega arith)
 -- ---- every call's tests are in number order, whatever its input is
 pub record InOrder : Type 0 where
   pub length : (r : Float) (n : ℕ) → inOrder 1 (lengthTests r n) ≡ true
-  pub candidates : (n m : ℕ) (ps : List ℕ) (a e room : ℕ) → inOrder 1 (candidatesTests n m ps a e room) ≡ true
-  pub gain : (xs : List Float) (n d a e x room : ℕ) → inOrder 1 (gainTests xs n d a e x room) ≡ true
-  pub search : (xs : List Float) (n d m : ℕ) (ps : List ℕ) (a e room : ℕ) → inOrder 1 (searchTests xs n d m ps a e room) ≡ true
-  pub seeded : (xs : List Float) (n d m : ℕ) (ps : List ℕ) (vs : List Float) (sums records : ℕ) → inOrder 1 (seededTests xs n d m ps vs sums records) ≡ true
-  pub tree : (xs : List Float) (n d m : ℕ) (t : Float) (ps : List ℕ) (vs : List Float) (room : Room) → inOrder 1 (treeTests xs n d m t ps vs room) ≡ true
-  pub ordering : (xs : List Float) (n d room dist : ℕ) → inOrder 1 (orderingTests xs n d room dist) ≡ true
-  pub predict : (xs : List Float) (n d a e x order dist room : ℕ) → inOrder 1 (predictTests xs n d a e x order dist room) ≡ true
-  pub curve : (l0 l1 : List Float) (room : ℕ) → inOrder 1 (curveTests l0 l1 room) ≡ true
-  pub pick : (n m : ℕ) (ps : List ℕ) (a e x : ℕ) (g : List Float) → inOrder 1 (pickTests n m ps a e x g) ≡ true
-  pub guesses : (n m : ℕ) (o : Option (List ℕ)) (a e : ℕ) → inOrder 1 (guessesTests n m o a e) ≡ true
-  pub permutation : (m : ℕ) (alpha : Float) (P : ℕ) (top : Float) (k : ℕ) (bs : List Float) (cs : List (List Float)) (ps : List ℕ) → inOrder 1 (permutationTests m alpha P top k bs cs ps) ≡ true
+  pub candidates : (a : CandidatesAsked) → inOrder 1 (candidatesTests a) ≡ true
+  pub gain : (a : GainAsked) → inOrder 1 (gainTests a) ≡ true
+  pub search : (a : SearchAsked) → inOrder 1 (searchTests a) ≡ true
+  pub seeded : (a : SeededAsked) → inOrder 1 (seededTests a) ≡ true
+  pub tree : (a : TreeAsked) → inOrder 1 (treeTests a) ≡ true
+  pub ordering : (a : OrderingAsked) → inOrder 1 (orderingTests a) ≡ true
+  pub predict : (a : PredictAsked) → inOrder 1 (predictTests a) ≡ true
+  pub curve : (a : CurveAsked) → inOrder 1 (curveTests a) ≡ true
+  pub pick : (a : PickAsked) → inOrder 1 (pickTests a) ≡ true
+  pub guesses : (a : GuessesAsked) → inOrder 1 (guessesTests a) ≡ true
+  pub permutation : (a : PermutationAsked) → inOrder 1 (permutationTests a) ≡ true
   pub deck : (deck : Deck) → inOrder 1 (deckTests deck) ≡ true
 
 pub all-in-order : InOrder
 all-in-order =
     record {
       length = λ r n. refl;
-      candidates = λ n m ps a e room. refl;
-      gain = λ xs n d a e x room. refl;
-      search = λ xs n d m ps a e room. refl;
-      seeded = λ xs n d m ps vs sums records. refl;
-      tree = λ xs n d m t ps vs room. refl;
-      ordering = λ xs n d room dist. refl;
-      predict = λ xs n d a e x order dist room. refl;
-      curve = λ l0 l1 room. refl;
-      pick = λ n m ps a e x g. refl;
-      guesses = λ n m o a e. refl;
-      permutation = λ m alpha P top k bs cs ps. refl;
+      candidates = λ a. refl;
+      gain = λ a. refl;
+      search = λ a. refl;
+      seeded = λ a. refl;
+      tree = λ a. refl;
+      ordering = λ a. refl;
+      predict = λ a. refl;
+      curve = λ a. refl;
+      pick = λ a. refl;
+      guesses = λ a. refl;
+      permutation = λ a. refl;
       deck = λ deck. refl;
     }

@@ -69,6 +69,6 @@ module _ (cells : List Float) (d : ℕ) where
     terms-by-columns s1 s2 (suc k) h =
         rw (terms-by-columns s1 s2 k (omega arith), flat-is-column n k start h first, flat-is-column n k stop h within, flat-is-column n k x h there)
 
-    pub gain-by-columns : gainIn cells n d start stop x ≡ columnGain cells d start stop x
+    pub gain-by-columns : gainIn (record { cells = cells; n = n; d = d }) start stop x ≡ columnGain cells d start stop x
     unfolding gainOf innerGain columnGain
     gain-by-columns = rw (terms-by-columns (whole (x - start)) (whole (stop - x)) d (omega arith))

@@ -1,6 +1,7 @@
 -- Allowed rows, in the words that a reader checks: the candidates beside the list that is computed (Candidates).
 use mathlib.Core.List.{List, [], _∷_}
 use Prim.Native.Nat.{ℕ, _+_, _≤_, _<_}
+use Rattle.scope.specs.Asked.{Shortest}
 
 -- the pair (a, b) stands in the flat list
 pub data Pair (a b : ℕ) : List ℕ → Type 0 where
@@ -8,9 +9,9 @@ pub data Pair (a b : ℕ) : List ℕ → Type 0 where
   later : {c d : ℕ} {ps : List ℕ} → Pair a b ps → Pair a b (c ∷ d ∷ ps)
 
 -- "Rows x with start+m <= x < stop-m, except a < x <= b for some pair."
-pub record Allowed (m : ℕ) (forbidden : List ℕ) (start stop x : ℕ) : Type 0 where
-  pub low : start + m ≤ x
-  pub high : x + m < stop
+pub record Allowed (s : Shortest) (forbidden : List ℕ) (start stop x : ℕ) : Type 0 where
+  pub low : start + s .m ≤ x
+  pub high : x + s .m < stop
   pub free : (a b : ℕ) → Pair a b forbidden → a < x → x ≤ b → ⊥
 
 -- ascending, and not below lo: so nothing stands twice

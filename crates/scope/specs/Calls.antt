@@ -1,22 +1,22 @@
--- For each entry point: its refusals in number order, its answer, and what it tells to each lent slice, for every input.
--- What a slice holds afterwards is `holding told before` (Lists): nothing is told by a refusal, so the slice is as it was.
-use mathlib.Core.Bool.{Bool, true, false, not, _||_}
+-- For each entry point: what it is asked, its refusals in number order, and what follows for every input: its answer, and what it tells to each
+-- lent slice. What a slice holds afterwards is `holding told before` (Lists): nothing is told by a refusal, so the slice is as it was.
+use mathlib.Core.Bool.{Bool, not, _||_}
 use mathlib.Core.List.{List, [], _∷_, _++_, flatten}
 use mathlib.Core.Option.{Option, none, some}
-use Prim.Native.Nat.{ℕ, zero, suc, _+_, _-_, _*_, _/_}
-use lib.Dec.{ltb, leb, eqb}
+use Prim.Native.Nat.{ℕ, _+_, _-_, _*_, _/_}
+use lib.Dec.{eqb}
 use lib.Ieee.{Float}
-use lib.ListN.{length, take, drop}
+use lib.ListN.{length, take}
 use Rattle.scope.specs.Lists.{every}
-use Rattle.scope.specs.Refusals
-use Rattle.scope.specs.Refusals.{Test, test, firstOf, Answer, refused, given, unless, toldUnless, outside, mostRows, mostNeighbours, mostCurves, mostLength, no1, no1-rows, no2, no2-relative, no3, no3-alpha, no4, no5, no6, no7, no8, no8-split, no8-empty, no9}
+use Rattle.scope.specs.Asked.{Matrix, Shortest, Settings}
+use Rattle.scope.specs.Refusals.{Test, test, firstOf, Answer, unless, toldUnless, outside, mostRows, mostNeighbours, mostCurves, mostLength, no1, no1-rows, no2, no2-relative, no3, no3-alpha, no4, no5, no6, no7, no8, no8-split, no8-empty, no9}
 use Rattle.scope.specs.Rounding.{minimalLength}
 use Rattle.scope.specs.Candidates.{candidates, rangeSize, no10}
 use Rattle.scope.specs.Sums.{prefixSums}
 use Rattle.scope.specs.Gain.{gainOf}
 use Rattle.scope.specs.Grid.{Record, blank, best, trials, search}
-use Rattle.scope.specs.Layers.{Segment, seeded, layersTotal, stored}
-use Rattle.scope.specs.Tree.{Run, seedRecords, treeOf, recordsOf, Node, nodes, nodeCount, sheet, mostNodes}
+use Rattle.scope.specs.Layers.{seeded, layersTotal, stored}
+use Rattle.scope.specs.Tree.{Run, treeOf, recordsOf, Node, nodes, nodeCount, sheet, mostNodes}
 use Rattle.scope.specs.Neighbours.{orders, distances, predictions}
 use Rattle.scope.specs.Curves.{curve, picked, isMember, guesses}
 use Rattle.scope.specs.Permutations.{no11, counter, pValue, isSignificant}
@@ -29,9 +29,16 @@ pub record Split : Type 0 where
 abbrev pub splitOf : Record → Split
 splitOf r = record { split = r .split; gain = r .gain }
 
+-- the prefix sums of a matrix, and their room: "They need (n+1)*d f64"
+abbrev pub sumsOf : Matrix → List Float
+sumsOf x = prefixSums (x .cells) (x .n) (x .d)
+
+abbrev pub sumsRoom : Matrix → ℕ
+sumsRoom x = (x .n + 1) * x .d
+
 -- the gain of a run's splits: prefix sums "start at row 0"
-abbrev pub gainIn : List Float → ℕ → ℕ → ℕ → ℕ → ℕ → Float
-gainIn cells n d start stop x = gainOf (prefixSums cells n d) d start stop x
+abbrev pub gainIn : Matrix → ℕ → ℕ → ℕ → Float
+gainIn x start stop split = gainOf (sumsOf x) (x .d) start stop split
 
 -- ---- minimal_segment_length: a relative length and n
 abbrev pub lengthTests : Float → ℕ → List Test
@@ -41,91 +48,137 @@ unfoldable pub lengthAnswer : Float → ℕ → Answer ℕ
 lengthAnswer r n = unless (firstOf (lengthTests r n)) (minimalLength r n)
 
 -- ---- split_candidates: the list "written ascending, its length told, into a lent slice of at least stop-start-2m entries"
-abbrev pub candidatesTests : ℕ → ℕ → List ℕ → ℕ → ℕ → ℕ → List Test
-candidatesTests n m forbidden start stop room =
-    no1-rows n
-    ∷ no2 m
-    ∷ no5 forbidden
-    ∷ no7 (rangeSize m start stop) room
-    ∷ no8 n start stop
-    ∷ no9 m (stop - start)
-    ∷ no10 m forbidden start stop
+pub record CandidatesAsked : Type 0 where
+  pub n : ℕ
+  pub shortest : Shortest
+  pub forbidden : List ℕ
+  pub start : ℕ
+  pub stop : ℕ
+  pub room : ℕ
+
+abbrev pub candidatesTests : CandidatesAsked → List Test
+candidatesTests a =
+    no1-rows (a .n)
+    ∷ no2 (a .shortest)
+    ∷ no5 (a .forbidden)
+    ∷ no7 (rangeSize (a .shortest) (a .start) (a .stop)) (a .room)
+    ∷ no8 (a .n) (a .start) (a .stop)
+    ∷ no9 (a .shortest) (a .stop - a .start)
+    ∷ no10 (a .shortest) (a .forbidden) (a .start) (a .stop)
     ∷ []
 
-unfoldable pub candidatesRefusal : ℕ → ℕ → List ℕ → ℕ → ℕ → ℕ → ℕ
-candidatesRefusal n m forbidden start stop room = firstOf (candidatesTests n m forbidden start stop room)
+unfoldable pub candidatesRefusal : CandidatesAsked → ℕ
+candidatesRefusal a = firstOf (candidatesTests a)
 
-unfoldable pub candidatesAnswer : ℕ → ℕ → List ℕ → ℕ → ℕ → ℕ → Answer ℕ
-candidatesAnswer n m forbidden start stop room =
-    unless (candidatesRefusal n m forbidden start stop room) (length (candidates m forbidden start stop))
+pub record CandidatesTold : Type 0 where
+  pub answer : Answer ℕ
+  pub rows : List ℕ
 
-unfoldable pub candidatesTold : ℕ → ℕ → List ℕ → ℕ → ℕ → ℕ → List ℕ
-candidatesTold n m forbidden start stop room = toldUnless (candidatesRefusal n m forbidden start stop room) (candidates m forbidden start stop)
+unfoldable pub candidatesCall : CandidatesAsked → CandidatesTold
+candidatesCall a =
+    let no = candidatesRefusal a in
+    let rows = candidates (a .shortest) (a .forbidden) (a .start) (a .stop) in
+    record { answer = unless no (length rows); rows = toldUnless no rows }
 
--- ---- gain: sums need (n+1)*d of room
-abbrev pub gainTests : List Float → ℕ → ℕ → ℕ → ℕ → ℕ → ℕ → List Test
-gainTests cells n d start stop split room =
-    no1 mostRows cells n d ∷ no4 cells ∷ no7 ((n + 1) * d) room ∷ no8 n start stop ∷ no8-split start stop split ∷ []
+-- ---- gain
+pub record GainAsked : Type 0 where
+  pub matrix : Matrix
+  pub start : ℕ
+  pub stop : ℕ
+  pub split : ℕ
+  pub room : ℕ
 
-unfoldable pub gainRefusal : List Float → ℕ → ℕ → ℕ → ℕ → ℕ → ℕ → ℕ
-gainRefusal cells n d start stop split room = firstOf (gainTests cells n d start stop split room)
+abbrev pub gainTests : GainAsked → List Test
+gainTests a =
+    no1 mostRows (a .matrix)
+    ∷ no4 (a .matrix .cells)
+    ∷ no7 (sumsRoom (a .matrix)) (a .room)
+    ∷ no8 (a .matrix .n) (a .start) (a .stop)
+    ∷ no8-split (a .start) (a .stop) (a .split)
+    ∷ []
 
-unfoldable pub gainAnswer : List Float → ℕ → ℕ → ℕ → ℕ → ℕ → ℕ → Answer Float
-gainAnswer cells n d start stop split room = unless (gainRefusal cells n d start stop split room) (gainIn cells n d start stop split)
+unfoldable pub gainRefusal : GainAsked → ℕ
+gainRefusal a = firstOf (gainTests a)
 
-unfoldable pub gainSums : List Float → ℕ → ℕ → ℕ → ℕ → ℕ → ℕ → List Float
-gainSums cells n d start stop split room = toldUnless (gainRefusal cells n d start stop split room) (prefixSums cells n d)
+pub record GainTold : Type 0 where
+  pub answer : Answer Float
+  pub sums : List Float
+
+unfoldable pub gainCall : GainAsked → GainTold
+gainCall a =
+    let no = gainRefusal a in
+    record { answer = unless no (gainIn (a .matrix) (a .start) (a .stop) (a .split)); sums = toldUnless no (sumsOf (a .matrix)) }
 
 -- ---- find_best_split
-abbrev pub searchTests : List Float → ℕ → ℕ → ℕ → List ℕ → ℕ → ℕ → ℕ → List Test
-searchTests cells n d m forbidden start stop room =
-    no1 mostRows cells n d
-    ∷ no2 m
-    ∷ no4 cells
-    ∷ no5 forbidden
-    ∷ no7 ((n + 1) * d) room
-    ∷ no8 n start stop
-    ∷ no9 m (stop - start)
-    ∷ no10 m forbidden start stop
+pub record SearchAsked : Type 0 where
+  pub matrix : Matrix
+  pub shortest : Shortest
+  pub forbidden : List ℕ
+  pub start : ℕ
+  pub stop : ℕ
+  pub room : ℕ
+
+abbrev pub searchTests : SearchAsked → List Test
+searchTests a =
+    no1 mostRows (a .matrix)
+    ∷ no2 (a .shortest)
+    ∷ no4 (a .matrix .cells)
+    ∷ no5 (a .forbidden)
+    ∷ no7 (sumsRoom (a .matrix)) (a .room)
+    ∷ no8 (a .matrix .n) (a .start) (a .stop)
+    ∷ no9 (a .shortest) (a .stop - a .start)
+    ∷ no10 (a .shortest) (a .forbidden) (a .start) (a .stop)
     ∷ []
 
-unfoldable pub searchRefusal : List Float → ℕ → ℕ → ℕ → List ℕ → ℕ → ℕ → ℕ → ℕ
-searchRefusal cells n d m forbidden start stop room = firstOf (searchTests cells n d m forbidden start stop room)
+unfoldable pub searchRefusal : SearchAsked → ℕ
+searchRefusal a = firstOf (searchTests a)
 
-unfoldable pub searchAnswer : List Float → ℕ → ℕ → ℕ → List ℕ → ℕ → ℕ → ℕ → Answer Split
-searchAnswer cells n d m forbidden start stop room =
-    unless (searchRefusal cells n d m forbidden start stop room) (splitOf (best (blank start stop) (trials (gainIn cells n d) m forbidden start stop)))
+pub record SearchTold : Type 0 where
+  pub answer : Answer Split
+  pub sums : List Float
 
-unfoldable pub searchSums : List Float → ℕ → ℕ → ℕ → List ℕ → ℕ → ℕ → ℕ → List Float
-searchSums cells n d m forbidden start stop room = toldUnless (searchRefusal cells n d m forbidden start stop room) (prefixSums cells n d)
+unfoldable pub searchCall : SearchAsked → SearchTold
+searchCall a =
+    let no = searchRefusal a in
+    let found = best (blank (a .start) (a .stop)) (trials (gainIn (a .matrix)) (a .shortest) (a .forbidden) (a .start) (a .stop)) in
+    record { answer = unless no (splitOf found); sums = toldUnless no (sumsOf (a .matrix)) }
 
--- ---- a run's settings
-abbrev pub runOf : List Float → ℕ → ℕ → ℕ → Float → List ℕ → List Float → Run
-runOf cells n d m threshold forbidden layers =
-    record { n = n; m = m; threshold = threshold; forbidden = forbidden; seeds = seeded n layers; gain = gainIn cells n d }
+-- ---- seeded_segments: the stored records alone, in room for sums and records. T records of room
+pub record SeededAsked : Type 0 where
+  pub matrix : Matrix
+  pub shortest : Shortest
+  pub forbidden : List ℕ
+  pub layers : List Float
+  pub sums : ℕ
+  pub records : ℕ
 
--- ---- seeded_segments: the stored records alone. T records of room
-abbrev pub seededTests : List Float → ℕ → ℕ → ℕ → List ℕ → List Float → ℕ → ℕ → List Test
-seededTests cells n d m forbidden layers sums records =
-    no1 mostRows cells n d ∷ no2 m ∷ no4 cells ∷ no5 forbidden ∷ no6 layers ∷ no7 ((n + 1) * d) sums ∷ no7 (layersTotal layers) records ∷ []
+abbrev pub seededTests : SeededAsked → List Test
+seededTests a =
+    no1 mostRows (a .matrix)
+    ∷ no2 (a .shortest)
+    ∷ no4 (a .matrix .cells)
+    ∷ no5 (a .forbidden)
+    ∷ no6 (a .layers)
+    ∷ no7 (sumsRoom (a .matrix)) (a .sums)
+    ∷ no7 (layersTotal (a .layers)) (a .records)
+    ∷ []
 
-unfoldable pub seededRefusal : List Float → ℕ → ℕ → ℕ → List ℕ → List Float → ℕ → ℕ → ℕ
-seededRefusal cells n d m forbidden layers sums records = firstOf (seededTests cells n d m forbidden layers sums records)
+unfoldable pub seededRefusal : SeededAsked → ℕ
+seededRefusal a = firstOf (seededTests a)
 
 -- the run of its search: no threshold enters
-abbrev pub seededOf : List Float → ℕ → ℕ → ℕ → List ℕ → List Float → List Record
-seededOf cells n d m forbidden layers = stored (λ start stop. search (gainIn cells n d) m forbidden start stop) (seeded n layers)
+abbrev pub seededOf : SeededAsked → List Record
+seededOf a = stored (λ start stop. search (gainIn (a .matrix)) (a .shortest) (a .forbidden) start stop) (seeded (a .matrix .n) (a .layers))
 
-unfoldable pub seededAnswer : List Float → ℕ → ℕ → ℕ → List ℕ → List Float → ℕ → ℕ → Answer ℕ
-seededAnswer cells n d m forbidden layers sums records =
-    unless (seededRefusal cells n d m forbidden layers sums records) (length (seededOf cells n d m forbidden layers))
+pub record SeededTold : Type 0 where
+  pub answer : Answer ℕ
+  pub sums : List Float
+  pub records : List Record
 
-unfoldable pub seededSums : List Float → ℕ → ℕ → ℕ → List ℕ → List Float → ℕ → ℕ → List Float
-seededSums cells n d m forbidden layers sums records = toldUnless (seededRefusal cells n d m forbidden layers sums records) (prefixSums cells n d)
-
-unfoldable pub seededRecords : List Float → ℕ → ℕ → ℕ → List ℕ → List Float → ℕ → ℕ → List Record
-seededRecords cells n d m forbidden layers sums records =
-    toldUnless (seededRefusal cells n d m forbidden layers sums records) (seededOf cells n d m forbidden layers)
+unfoldable pub seededCall : SeededAsked → SeededTold
+seededCall a =
+    let no = seededRefusal a in
+    record { answer = unless no (length (seededOf a)); sums = toldUnless no (sumsOf (a .matrix)); records = toldUnless no (seededOf a) }
 
 -- ---- the tree: "Room needed: B nodes, T+B records, (B-1)/2 cuts; less is refusal 7", in the order sums, records, nodes, cuts
 
@@ -136,22 +189,34 @@ pub record Room : Type 0 where
   pub nodes : ℕ
   pub cuts : ℕ
 
-abbrev pub treeTests : List Float → ℕ → ℕ → ℕ → Float → List ℕ → List Float → Room → List Test
-treeTests cells n d m threshold forbidden layers room =
-    no1 mostRows cells n d
-    ∷ no2 m
-    ∷ no3 threshold
-    ∷ no4 cells
-    ∷ no5 forbidden
-    ∷ no6 layers
-    ∷ no7 ((n + 1) * d) (room .sums)
-    ∷ no7 (layersTotal layers + mostNodes n m) (room .records)
-    ∷ no7 (mostNodes n m) (room .nodes)
-    ∷ no7 ((mostNodes n m - 1) / 2) (room .cuts)
+pub record TreeAsked : Type 0 where
+  pub matrix : Matrix
+  pub settings : Settings
+  pub room : Room
+
+abbrev pub treeTests : TreeAsked → List Test
+treeTests a =
+    let s = a .settings in
+    let most = mostNodes (a .matrix .n) (s .shortest) in
+    no1 mostRows (a .matrix)
+    ∷ no2 (s .shortest)
+    ∷ no3 (s .threshold)
+    ∷ no4 (a .matrix .cells)
+    ∷ no5 (s .forbidden)
+    ∷ no6 (s .layers)
+    ∷ no7 (sumsRoom (a .matrix)) (a .room .sums)
+    ∷ no7 (layersTotal (s .layers) + most) (a .room .records)
+    ∷ no7 most (a .room .nodes)
+    ∷ no7 ((most - 1) / 2) (a .room .cuts)
     ∷ []
 
-unfoldable pub treeRefusal : List Float → ℕ → ℕ → ℕ → Float → List ℕ → List Float → Room → ℕ
-treeRefusal cells n d m threshold forbidden layers room = firstOf (treeTests cells n d m threshold forbidden layers room)
+unfoldable pub treeRefusal : TreeAsked → ℕ
+treeRefusal a = firstOf (treeTests a)
+
+-- the run that is asked for
+abbrev pub runOf : Matrix → Settings → Run
+runOf x s =
+    record { n = x .n; shortest = s .shortest; threshold = s .threshold; forbidden = s .forbidden; seeds = seeded (x .n) (s .layers); gain = gainIn x }
 
 -- how many nodes, records and cuts
 pub record Counts : Type 0 where
@@ -162,57 +227,92 @@ pub record Counts : Type 0 where
 abbrev pub countsOf : Run → Counts
 countsOf q = record { nodes = nodeCount (treeOf q); records = length (recordsOf q); cuts = length (sheet (treeOf q)) }
 
-unfoldable pub treeAnswer : List Float → ℕ → ℕ → ℕ → Float → List ℕ → List Float → Room → Answer Counts
-treeAnswer cells n d m threshold forbidden layers room =
-    unless (treeRefusal cells n d m threshold forbidden layers room) (countsOf (runOf cells n d m threshold forbidden layers))
+pub record TreeTold : Type 0 where
+  pub answer : Answer Counts
+  pub sums : List Float
+  pub records : List Record
+  pub nodes : List Node
+  pub cuts : List ℕ
 
-unfoldable pub treeSums : List Float → ℕ → ℕ → ℕ → Float → List ℕ → List Float → Room → List Float
-treeSums cells n d m threshold forbidden layers room = toldUnless (treeRefusal cells n d m threshold forbidden layers room) (prefixSums cells n d)
-
-unfoldable pub treeRecords : List Float → ℕ → ℕ → ℕ → Float → List ℕ → List Float → Room → List Record
-treeRecords cells n d m threshold forbidden layers room =
-    toldUnless (treeRefusal cells n d m threshold forbidden layers room) (recordsOf (runOf cells n d m threshold forbidden layers))
-
-unfoldable pub treeNodes : List Float → ℕ → ℕ → ℕ → Float → List ℕ → List Float → Room → List Node
-treeNodes cells n d m threshold forbidden layers room =
-    toldUnless (treeRefusal cells n d m threshold forbidden layers room) (nodes 0 (treeOf (runOf cells n d m threshold forbidden layers)))
-
-unfoldable pub treeCuts : List Float → ℕ → ℕ → ℕ → Float → List ℕ → List Float → Room → List ℕ
-treeCuts cells n d m threshold forbidden layers room =
-    toldUnless (treeRefusal cells n d m threshold forbidden layers room) (sheet (treeOf (runOf cells n d m threshold forbidden layers)))
+unfoldable pub treeCall : TreeAsked → TreeTold
+treeCall a =
+    let no = treeRefusal a in
+    let q = runOf (a .matrix) (a .settings) in
+    record {
+      answer = unless no (countsOf q);
+      sums = toldUnless no (sumsOf (a .matrix));
+      records = toldUnless no (recordsOf q);
+      nodes = toldUnless no (nodes 0 (treeOf q));
+      cuts = toldUnless no (sheet (treeOf q));
+    }
 
 -- ---- ordering: "Needs n*n u32 and n f64 of room; afterwards the n f64 hold the last row's distances."
-abbrev pub orderingTests : List Float → ℕ → ℕ → ℕ → ℕ → List Test
-orderingTests cells n d ordering distance = no1 mostNeighbours cells n d ∷ no4 cells ∷ no7 (n * n) ordering ∷ no7 n distance ∷ []
+pub record OrderingAsked : Type 0 where
+  pub matrix : Matrix
+  pub ordering : ℕ
+  pub distances : ℕ
 
-unfoldable pub orderingRefusal : List Float → ℕ → ℕ → ℕ → ℕ → ℕ
-orderingRefusal cells n d ordering distance = firstOf (orderingTests cells n d ordering distance)
+abbrev pub orderingTests : OrderingAsked → List Test
+orderingTests a =
+    no1 mostNeighbours (a .matrix) ∷ no4 (a .matrix .cells) ∷ no7 (a .matrix .n * a .matrix .n) (a .ordering) ∷ no7 (a .matrix .n) (a .distances) ∷ []
 
-unfoldable pub orderingTold : List Float → ℕ → ℕ → ℕ → ℕ → List ℕ
-orderingTold cells n d ordering distance = toldUnless (orderingRefusal cells n d ordering distance) (orders cells n d n)
+unfoldable pub orderingRefusal : OrderingAsked → ℕ
+orderingRefusal a = firstOf (orderingTests a)
 
-unfoldable pub distancesTold : List Float → ℕ → ℕ → ℕ → ℕ → List Float
-distancesTold cells n d ordering distance = toldUnless (orderingRefusal cells n d ordering distance) (distances cells d (n - 1) n)
+-- each row's order, row after row, and the last row's distances
+abbrev pub ordersOf : Matrix → List ℕ
+ordersOf x = orders (x .cells) (x .n) (x .d) (x .n)
+
+abbrev pub lastDistances : Matrix → List Float
+lastDistances x = distances (x .cells) (x .d) (x .n - 1) (x .n)
+
+-- the answer is 0 or the number
+pub record OrderingTold : Type 0 where
+  pub answer : ℕ
+  pub ordering : List ℕ
+  pub distances : List Float
+
+unfoldable pub orderingCall : OrderingAsked → OrderingTold
+orderingCall a =
+    let no = orderingRefusal a in
+    record { answer = no; ordering = toldUnless no (ordersOf (a .matrix)); distances = toldUnless no (lastDistances (a .matrix)) }
 
 -- ---- predict: "Output L f64 (0 if start > stop); less is 7. The call takes the matrix and the ordering's room, filled first."
-abbrev pub predictTests : List Float → ℕ → ℕ → ℕ → ℕ → ℕ → ℕ → ℕ → ℕ → List Test
-predictTests cells n d start stop split ordering distance room =
-    orderingTests cells n d ordering distance ++ (no7 (stop - start) room ∷ no8 n start stop ∷ no8-split start stop split ∷ no8-empty start stop ∷ [])
+pub record PredictAsked : Type 0 where
+  pub order : OrderingAsked
+  pub start : ℕ
+  pub stop : ℕ
+  pub split : ℕ
+  pub room : ℕ
 
-unfoldable pub predictRefusal : List Float → ℕ → ℕ → ℕ → ℕ → ℕ → ℕ → ℕ → ℕ → ℕ
-predictRefusal cells n d start stop split ordering distance room = firstOf (predictTests cells n d start stop split ordering distance room)
+abbrev pub predictTests : PredictAsked → List Test
+predictTests a =
+    orderingTests (a .order)
+    ++ (no7 (a .stop - a .start) (a .room) ∷ no8 (a .order .matrix .n) (a .start) (a .stop) ∷ no8-split (a .start) (a .stop) (a .split) ∷ no8-empty (a .start) (a .stop) ∷ [])
 
-unfoldable pub predictOrdering : List Float → ℕ → ℕ → ℕ → ℕ → ℕ → ℕ → ℕ → ℕ → List ℕ
-predictOrdering cells n d start stop split ordering distance room =
-    toldUnless (predictRefusal cells n d start stop split ordering distance room) (orders cells n d n)
+unfoldable pub predictRefusal : PredictAsked → ℕ
+predictRefusal a = firstOf (predictTests a)
 
-unfoldable pub predictDistances : List Float → ℕ → ℕ → ℕ → ℕ → ℕ → ℕ → ℕ → ℕ → List Float
-predictDistances cells n d start stop split ordering distance room =
-    toldUnless (predictRefusal cells n d start stop split ordering distance room) (distances cells d (n - 1) n)
+abbrev pub predictionsOf : PredictAsked → List Float
+predictionsOf a =
+    let x = a .order .matrix in
+    predictions (x .cells) (x .n) (x .d) (a .start) (a .stop) (a .split) (a .stop - a .start)
 
-unfoldable pub predictTold : List Float → ℕ → ℕ → ℕ → ℕ → ℕ → ℕ → ℕ → ℕ → List Float
-predictTold cells n d start stop split ordering distance room =
-    toldUnless (predictRefusal cells n d start stop split ordering distance room) (predictions cells n d start stop split (stop - start))
+pub record PredictTold : Type 0 where
+  pub answer : ℕ
+  pub ordering : List ℕ
+  pub distances : List Float
+  pub predictions : List Float
+
+unfoldable pub predictCall : PredictAsked → PredictTold
+predictCall a =
+    let no = predictRefusal a in
+    record {
+      answer = no;
+      ordering = toldUnless no (ordersOf (a .order .matrix));
+      distances = toldUnless no (lastDistances (a .order .matrix));
+      predictions = toldUnless no (predictionsOf a);
+    }
 
 -- ---- 12: "curve lengths differ, are 0 or above 4,096"; all lengths are held to the first
 unfoldable pub wrongLengths : ℕ → List (List Float) → Bool
@@ -222,60 +322,113 @@ abbrev pub no12-lengths : ℕ → List (List Float) → Test
 no12-lengths L curves = test (wrongLengths L curves) 12
 
 -- ---- gain_from_likelihoods: "From rows l0, l1 of length L (that of l0 where refusal 7 is judged)"
-abbrev pub curveTests : List Float → List Float → ℕ → List Test
-curveTests l0 l1 room = no4 (l0 ++ l1) ∷ no7 (length l0) room ∷ no12-lengths (length l0) (l0 ∷ l1 ∷ []) ∷ []
+pub record CurveAsked : Type 0 where
+  pub l0 : List Float
+  pub l1 : List Float
+  pub room : ℕ
 
-unfoldable pub curveRefusal : List Float → List Float → ℕ → ℕ
-curveRefusal l0 l1 room = firstOf (curveTests l0 l1 room)
+abbrev pub curveTests : CurveAsked → List Test
+curveTests a = no4 (a .l0 ++ a .l1) ∷ no7 (length (a .l0)) (a .room) ∷ no12-lengths (length (a .l0)) (a .l0 ∷ a .l1 ∷ []) ∷ []
 
-unfoldable pub curveTold : List Float → List Float → ℕ → List Float
-curveTold l0 l1 room = toldUnless (curveRefusal l0 l1 room) (curve l0 l1 (length l0))
+unfoldable pub curveRefusal : CurveAsked → ℕ
+curveRefusal a = firstOf (curveTests a)
+
+pub record CurveTold : Type 0 where
+  pub answer : ℕ
+  pub curve : List Float
+
+unfoldable pub curveCall : CurveAsked → CurveTold
+curveCall a = let no = curveRefusal a in record { answer = no; curve = toldUnless no (curve (a .l0) (a .l1) (length (a .l0))) }
 
 -- ---- the pick. 12: "a guess that is no candidate; for the pick, a curve length other than stop-start"
-abbrev pub pickTests : ℕ → ℕ → List ℕ → ℕ → ℕ → ℕ → List Float → List Test
-pickTests n m forbidden start stop guess g =
-    no1-rows n
-    ∷ no2 m
-    ∷ no5 forbidden
-    ∷ no8 n start stop
-    ∷ no9 m (stop - start)
-    ∷ no10 m forbidden start stop
-    ∷ test (not (isMember guess (candidates m forbidden start stop))) 12
-    ∷ test (not (eqb (length g) (stop - start))) 12
+pub record PickAsked : Type 0 where
+  pub n : ℕ
+  pub shortest : Shortest
+  pub forbidden : List ℕ
+  pub start : ℕ
+  pub stop : ℕ
+  pub guess : ℕ
+  pub curve : List Float
+
+abbrev pub pickTests : PickAsked → List Test
+pickTests a =
+    no1-rows (a .n)
+    ∷ no2 (a .shortest)
+    ∷ no5 (a .forbidden)
+    ∷ no8 (a .n) (a .start) (a .stop)
+    ∷ no9 (a .shortest) (a .stop - a .start)
+    ∷ no10 (a .shortest) (a .forbidden) (a .start) (a .stop)
+    ∷ test (not (isMember (a .guess) (candidates (a .shortest) (a .forbidden) (a .start) (a .stop)))) 12
+    ∷ test (not (eqb (length (a .curve)) (a .stop - a .start))) 12
     ∷ []
 
-unfoldable pub pickAnswer : ℕ → ℕ → List ℕ → ℕ → ℕ → ℕ → List Float → Answer Split
-pickAnswer n m forbidden start stop guess g =
-    unless (firstOf (pickTests n m forbidden start stop guess g)) (splitOf (picked m forbidden start stop guess g))
+unfoldable pub pickAnswer : PickAsked → Answer Split
+pickAnswer a = unless (firstOf (pickTests a)) (splitOf (picked (a .shortest) (a .forbidden) (a .start) (a .stop) (a .guess) (a .curve)))
 
 -- ---- the guesses. A list that is not given is not looked at
 abbrev pub listed : Option (List ℕ) → List ℕ
 listed none = []
 listed (some forbidden) = forbidden
 
-abbrev pub guessesTests : ℕ → ℕ → Option (List ℕ) → ℕ → ℕ → List Test
-guessesTests n m forbidden start stop =
-    no1-rows n ∷ no2 m ∷ no5 (listed forbidden) ∷ no8 n start stop ∷ no9 m (stop - start) ∷ no10 m (listed forbidden) start stop ∷ []
+pub record GuessesAsked : Type 0 where
+  pub n : ℕ
+  pub shortest : Shortest
+  pub forbidden : Option (List ℕ)
+  pub start : ℕ
+  pub stop : ℕ
 
-unfoldable pub guessesAnswer : ℕ → ℕ → Option (List ℕ) → ℕ → ℕ → Answer (List ℕ)
-guessesAnswer n m forbidden start stop = unless (firstOf (guessesTests n m forbidden start stop)) (guesses m forbidden start stop)
+abbrev pub guessesTests : GuessesAsked → List Test
+guessesTests a =
+    no1-rows (a .n)
+    ∷ no2 (a .shortest)
+    ∷ no5 (listed (a .forbidden))
+    ∷ no8 (a .n) (a .start) (a .stop)
+    ∷ no9 (a .shortest) (a .stop - a .start)
+    ∷ no10 (a .shortest) (listed (a .forbidden)) (a .start) (a .stop)
+    ∷ []
 
--- ---- the permutation test. The curves are lent with their count; what lies beyond the count is not looked at
+unfoldable pub guessesAnswer : GuessesAsked → Answer (List ℕ)
+guessesAnswer a = unless (firstOf (guessesTests a)) (guesses (a .shortest) (a .forbidden) (a .start) (a .stop))
+
+-- ---- the permutation test. The curves are lent with their count k; what lies beyond the count is not looked at
 abbrev pub firstLength : List (List Float) → ℕ
 firstLength [] = 0
 firstLength (c ∷ cs) = length c
 
--- k is the count; bases and curves are those within it
-abbrev pub permutationTests : ℕ → Float → ℕ → Float → ℕ → List Float → List (List Float) → List ℕ → List Test
-permutationTests m alpha P maximum k bases curves permutations =
-    let L = firstLength curves in
-    no2 m
-    ∷ no3-alpha alpha
-    ∷ no4 (maximum ∷ bases ++ flatten curves)
-    ∷ no9 m L
-    ∷ no11 P L permutations
-    ∷ test (outside mostCurves k) 12
-    ∷ no12-lengths L curves
+pub record PermutationAsked : Type 0 where
+  pub shortest : Shortest
+  pub alpha : Float
+  pub maximum : Float
+  pub k : ℕ
+  pub bases : List Float
+  pub curves : List (List Float)
+  pub P : ℕ
+  pub permutations : List ℕ
+
+-- bases and curves within the count
+abbrev pub within : PermutationAsked → PermutationAsked
+within a = record {
+  shortest = a .shortest;
+  alpha = a .alpha;
+  maximum = a .maximum;
+  k = a .k;
+  bases = take (a .k) (a .bases);
+  curves = take (a .k) (a .curves);
+  P = a .P;
+  permutations = a .permutations;
+}
+
+-- of those within the count
+abbrev pub permutationTests : PermutationAsked → List Test
+permutationTests a =
+    let L = firstLength (a .curves) in
+    no2 (a .shortest)
+    ∷ no3-alpha (a .alpha)
+    ∷ no4 (a .maximum ∷ a .bases ++ flatten (a .curves))
+    ∷ no9 (a .shortest) L
+    ∷ no11 (a .P) L (a .permutations)
+    ∷ test (outside mostCurves (a .k)) 12
+    ∷ no12-lengths L (a .curves)
     ∷ []
 
 pub record Tested : Type 0 where
@@ -286,7 +439,8 @@ pub record Tested : Type 0 where
 abbrev pub testedOf : Float → ℕ → ℕ → Tested
 testedOf alpha P counted = record { counted = counted; p = pValue counted P; significant = isSignificant (pValue counted P) alpha }
 
-unfoldable pub permutationAnswer : ℕ → Float → ℕ → Float → ℕ → List Float → List (List Float) → List ℕ → Answer Tested
-permutationAnswer m alpha P maximum k bases curves permutations =
-    unless (firstOf (permutationTests m alpha P maximum k (take k bases) (take k curves) permutations))
-    (testedOf alpha P (counter m (firstLength (take k curves)) (take k bases) (take k curves) maximum permutations P))
+abbrev pub counterOf : PermutationAsked → ℕ
+counterOf a = counter (a .shortest .m) (firstLength (a .curves)) (a .bases) (a .curves) (a .maximum) (a .permutations) (a .P)
+
+unfoldable pub permutationAnswer : PermutationAsked → Answer Tested
+permutationAnswer a = unless (firstOf (permutationTests (within a))) (testedOf (a .alpha) (a .P) (counterOf (within a)))

@@ -8,6 +8,7 @@ use lib.Ieee.{Float}
 use lib.ListN.{length, getD}
 use Rattle.scope.specs.Floats.{_⊕_, _⊖_, +0, lowest}
 use Rattle.scope.specs.Lists.{at, select}
+use Rattle.scope.specs.Asked.{Shortest}
 use Rattle.scope.specs.Candidates.{candidates}
 use Rattle.scope.specs.Grid.{Record, best, trials}
 
@@ -27,9 +28,9 @@ curve l0 l1 zero = []
 curve l0 l1 (suc k) = curve l0 l1 k ++ ((raised l0 l1 k ⊕ totalOf l1 (length l1)) ∷ [])
 
 -- ---- "Pick: start from the guess and minus infinity; over the candidates x, g[x-start] strictly greater wins."
-unfoldable pub picked : ℕ → List ℕ → ℕ → ℕ → ℕ → List Float → Record
-picked m forbidden start stop guess g =
-    best (record { start = start; stop = stop; split = guess; gain = lowest }) (trials (λ a e x. at g (x - a)) m forbidden start stop)
+unfoldable pub picked : Shortest → List ℕ → ℕ → ℕ → ℕ → List Float → Record
+picked s forbidden start stop guess g =
+    best (record { start = start; stop = stop; split = guess; gain = lowest }) (trials (λ a e x. at g (x - a)) s forbidden start stop)
 
 -- ---- Guesses
 
@@ -55,6 +56,6 @@ rising [] = []
 rising (x ∷ xs) = x ∷ aboveLast x xs
 
 -- "keeping candidates"; "with a forbidden list, even an empty one (given or not is an input of its own), .."
-unfoldable pub guesses : ℕ → Option (List ℕ) → ℕ → ℕ → List ℕ
-guesses m none start stop = select (λ x. isMember x (candidates m [] start stop)) (quarters start stop)
-guesses m (some forbidden) start stop = rising (quartersOf (candidates m forbidden start stop))
+unfoldable pub guesses : Shortest → Option (List ℕ) → ℕ → ℕ → List ℕ
+guesses s none start stop = select (λ x. isMember x (candidates s [] start stop)) (quarters start stop)
+guesses s (some forbidden) start stop = rising (quartersOf (candidates s forbidden start stop))

@@ -5,6 +5,7 @@ use mathlib.Core.Option.{Option, none, some}
 use Prim.Native.Nat.{ℕ}
 use lib.Ieee.{Float, lt}
 use Rattle.scope.specs.Floats.{lowest}
+use Rattle.scope.specs.Asked.{Shortest}
 use Rattle.scope.specs.Candidates.{candidates}
 
 -- "The record holds start, stop, best split and its max gain"
@@ -31,8 +32,8 @@ abbrev pub trial : (ℕ → ℕ → ℕ → Float) → ℕ → ℕ → ℕ → R
 trial gain start stop x = record { start = start; stop = stop; split = x; gain = gain start stop x }
 
 -- a trial for each candidate, in order
-unfoldable pub trials : (ℕ → ℕ → ℕ → Float) → ℕ → List ℕ → ℕ → ℕ → List Record
-trials gain m forbidden start stop = map (trial gain start stop) (candidates m forbidden start stop)
+unfoldable pub trials : (ℕ → ℕ → ℕ → Float) → Shortest → List ℕ → ℕ → ℕ → List Record
+trials gain s forbidden start stop = map (trial gain start stop) (candidates s forbidden start stop)
 
 -- "Refused exactly if no such row exists"
 abbrev pub ofSome : Record → List Record → Option Record
@@ -40,5 +41,5 @@ ofSome b [] = none
 ofSome b (r ∷ rs) = some (best b (r ∷ rs))
 
 -- the record of a segment's search, if it has a candidate
-unfoldable pub search : (ℕ → ℕ → ℕ → Float) → ℕ → List ℕ → ℕ → ℕ → Option Record
-search gain m forbidden start stop = ofSome (blank start stop) (trials gain m forbidden start stop)
+unfoldable pub search : (ℕ → ℕ → ℕ → Float) → Shortest → List ℕ → ℕ → ℕ → Option Record
+search gain s forbidden start stop = ofSome (blank start stop) (trials gain s forbidden start stop)

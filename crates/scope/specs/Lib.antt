@@ -1,6 +1,7 @@
 -- Document 01, section by section, in its order.
 pub mod Floats
 pub mod Lists
+pub mod Asked
 pub mod Refusals
 pub mod Rounding
 pub mod Candidates

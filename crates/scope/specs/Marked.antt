@@ -10,6 +10,7 @@ use lib.ListN.{length, replicate}
 use lib.Ieee.{Float, fin, binary64, add, sub, mul, div, ofInt, ofBits, toBits, lt, le, eq, isNan}
 use Rattle.scope.specs.Floats.{whole, _⊘_}
 use Rattle.scope.specs.Lists.{upward, select, every}
+use Rattle.scope.specs.Asked.{Matrix, Settings}
 use Rattle.scope.specs.Refusals.{Answer, refused, given, outside, wrongMatrix, isBetween, wellPaired, wrongLayers, wrongSegment, wrongSplit}
 use Rattle.scope.specs.Rounding.{nearestOf, truncation, ceiling, minimalLength, wholeRoot}
 use Rattle.scope.specs.Candidates.{isBarred, rangeSize, candidates, allBarred}
@@ -21,7 +22,7 @@ use Rattle.scope.specs.Tree.{Tree, seedRecords, inside, choice, verdict,
 use Rattle.scope.specs.Neighbours.{difference, squares, distances, insert, ordered, orderOf, others, neighbours, countOf, predictions}
 use Rattle.scope.specs.Curves.{guesses}
 use Rattle.scope.specs.Permutations.{isPermutation, wrongPermutations, addDeltas, added, reaches, exceeds, counter}
-use Rattle.scope.specs.Calls.{Split, Room, Counts, Tested, lengthAnswer, candidatesRefusal, candidatesAnswer, candidatesTold, gainRefusal, gainAnswer, searchRefusal, searchAnswer, treeRefusal, treeAnswer, treeCuts, predictRefusal, predictTold, guessesAnswer, wrongLengths, permutationAnswer}
+use Rattle.scope.specs.Calls.{Split, Room, OrderingAsked, Counts, Tested, lengthAnswer, candidatesRefusal, candidatesCall, gainRefusal, gainCall, searchRefusal, searchCall, treeRefusal, treeCall, predictRefusal, predictCall, guessesAnswer, wrongLengths, permutationAnswer}
 use Rattle.scope.specs.Text.{bytes, same, parts, valueOf, number, cell, cellsOf, hexValueOf, threshold, decimalOf, hexOf, line}
 use Rattle.scope.specs.Program.{wrongDeck, wrongPairs, readLine, readLines, readInput, deckRefusal, cutLines, sheetText, program}
 
@@ -58,22 +59,40 @@ ample : Room
 ample = record { sums = room; records = room; nodes = room; cuts = room }
 
 -- one column of whole numbers
-column : List ℕ → List Float
-column = map whole
+column : List ℕ → Matrix
+column cells = record { cells = map whole cells; n = length cells; d = 1 }
 
 run : Case → Seen
 unfolding column ample
-run (allowedRows m start stop forbidden) = rows (candidatesAnswer 10 m forbidden start stop room) (candidatesTold 10 m forbidden start stop room)
-run (gainAt cells start stop x) = gain (gainAnswer (column cells) (length cells) 1 start stop x room)
-run (bestSplit cells m) = split (searchAnswer (column cells) (length cells) 1 m [] 0 (length cells) room)
+run (allowedRows m start stop forbidden) =
+    let told = candidatesCall (record { n = 10; shortest = record { m = m }; forbidden = forbidden; start = start; stop = stop; room = room }) in
+    rows (told .answer) (told .rows)
+run (gainAt cells start stop x) = gain (gainCall (record { matrix = column cells; start = start; stop = stop; split = x; room = room }) .answer)
+run (bestSplit cells m) =
+    split (searchCall (record { matrix = column cells; shortest = record { m = m }; forbidden = []; start = 0; stop = length cells; room = room }) .answer)
 run (sheetOf input) = text (program (bytes input))
-run (cutsOf cells m t) = tree (treeAnswer (column cells) (length cells) 1 m t [] [] ample) (treeCuts (column cells) (length cells) 1 m t [] [] ample)
+run (cutsOf cells m t) =
+    let settings : Settings = record { shortest = record { m = m }; threshold = t; forbidden = []; layers = [] } in
+    let told = treeCall (record { matrix = column cells; settings = settings; room = ample }) in
+    tree (told .answer) (told .cuts)
 run (countsAt cells start stop x) =
-    predicted (map (countOf (column cells) (length cells) 1 start stop x) (upward start (length cells))) (predictTold (column cells) (length cells) 1 start stop x room room room)
-run (permuted deltas base m maximum P permutations) = tested (permutationAnswer m (ofBits binary64 0x3fa9_9999_9999_999a) P maximum 1 (base ∷ []) (deltas ∷ []) permutations)
+    let order : OrderingAsked = record { matrix = column cells; ordering = room; distances = room } in
+    predicted (map (countOf (column cells .cells) (length cells) 1 start stop x) (upward start (length cells)))
+    (predictCall (record { order = order; start = start; stop = stop; split = x; room = room }) .predictions)
+run (permuted deltas base m maximum P permutations) =
+    tested (permutationAnswer (record {
+      shortest = record { m = m };
+      alpha = ofBits binary64 0x3fa9_9999_9999_999a;
+      maximum = maximum;
+      k = 1;
+      bases = base ∷ [];
+      curves = deltas ∷ [];
+      P = P;
+      permutations = permutations;
+    }))
 run (seededBy n v) = segments (seeded n (v ∷ []))
 run (lengthOf r n) = least (lengthAnswer r n)
-run (guessesOf m start stop forbidden) = guessed (guessesAnswer 10 m forbidden start stop)
+run (guessesOf m start stop forbidden) = guessed (guessesAnswer (record { n = 10; shortest = record { m = m }; forbidden = forbidden; start = start; stop = stop }))
 
 -- [start, stop)
 from : ℕ → ℕ → Segment
@@ -136,5 +155,5 @@ marked =
 
 -- M1 to M11, and the three rows for the slips
 marked-right : map (λ (c : Marked). run (c .case)) marked ≡ map (λ (c : Marked). c .seen) marked
-unfolding run marked add sub mul div ofInt ofBits toBits lt le isNan upward select every outside wrongMatrix isBetween wellPaired wrongLayers wrongSegment wrongSplit allBarred wrongPermutations wrongLengths wrongDeck wrongPairs nearestOf truncation ceiling minimalLength wholeRoot isBarred rangeSize candidates flatSums prefixSums term terms innerGain gainOf better best trials search layerLength layerCount layerStep layerStart layerStop layerSegments seeded layersTotal stored seedRecords inside choice verdict grow grown recordsOf nodeCount nodes cuts sheet difference squares distances insert ordered orderOf others neighbours countOf predictions isPermutation addDeltas added reaches exceeds counter lengthAnswer candidatesRefusal candidatesAnswer candidatesTold gainRefusal gainAnswer searchRefusal searchAnswer treeRefusal treeAnswer treeCuts predictRefusal predictTold guesses guessesAnswer permutationAnswer bytes same parts valueOf number cell cellsOf hexValueOf threshold decimalOf hexOf line readLine readLines readInput deckRefusal cutLines sheetText program flatten
+unfolding run marked add sub mul div ofInt ofBits toBits lt le isNan upward select every outside wrongMatrix isBetween wellPaired wrongLayers wrongSegment wrongSplit allBarred wrongPermutations wrongLengths wrongDeck wrongPairs nearestOf truncation ceiling minimalLength wholeRoot isBarred rangeSize candidates flatSums prefixSums term terms innerGain gainOf better best trials search layerLength layerCount layerStep layerStart layerStop layerSegments seeded layersTotal stored seedRecords inside choice verdict grow grown recordsOf nodeCount nodes cuts sheet difference squares distances insert ordered orderOf others neighbours countOf predictions isPermutation addDeltas added reaches exceeds counter lengthAnswer candidatesRefusal candidatesCall gainRefusal gainCall searchRefusal searchCall treeRefusal treeCall predictRefusal predictCall guesses guessesAnswer permutationAnswer bytes same parts valueOf number cell cellsOf hexValueOf threshold decimalOf hexOf line readLine readLines readInput deckRefusal cutLines sheetText program flatten
 marked-right = refl

@@ -8,6 +8,7 @@ use lib.IntN.{ℤ, pos, negsuc}
 use lib.Ieee.{Float, binary64, ofInt, ofBits, toBits}
 use lib.ListN.{length}
 use Rattle.scope.specs.Lists.{every}
+use Rattle.scope.specs.Asked.{Matrix, Settings}
 use Rattle.scope.specs.Refusals.{Test, test, firstOf, outside, mostColumns, wellPaired, no2, no3}
 use Rattle.scope.specs.Grid.{Record}
 use Rattle.scope.specs.Tree.{Tree, treeOf, cuts, nodeCount}
@@ -137,11 +138,18 @@ wrongDeck deck =
 unfoldable pub wrongPairs : List ℕ → Bool
 wrongPairs forbidden = ltb (2 * 64) (length forbidden) || not (wellPaired forbidden)
 
+-- what the tree is asked for a deck
+abbrev pub deckMatrix : Deck → Matrix
+deckMatrix deck = record { cells = map (ofInt binary64) (deck .cells); n = deck .n; d = deck .d }
+
+abbrev pub deckSettings : Deck → Settings
+deckSettings deck = record { shortest = record { m = deck .m }; threshold = ofBits binary64 (deck .threshold); forbidden = deck .forbidden; layers = [] }
+
 abbrev pub deckTests : Deck → List Test
 deckTests deck =
     test (wrongDeck deck) 1
-    ∷ no2 (deck .m)
-    ∷ no3 (ofBits binary64 (deck .threshold))
+    ∷ no2 (deckSettings deck .shortest)
+    ∷ no3 (deckSettings deck .threshold)
     ∷ test (not (every isReading (deck .cells))) 4
     ∷ test (wrongPairs (deck .forbidden)) 5
     ∷ []
@@ -168,8 +176,7 @@ judgedText zero t = sheetText t
 judgedText (suc k) t = line (bytes "refused" ∷ decimal (suc k) ∷ [])
 
 abbrev pub deckTree : Deck → Tree
-deckTree deck =
-    treeOf (runOf (map (ofInt binary64) (deck .cells)) (deck .n) (deck .d) (deck .m) (ofBits binary64 (deck .threshold)) (deck .forbidden) [])
+deckTree deck = treeOf (runOf (deckMatrix deck) (deckSettings deck))
 
 abbrev pub deckText : Deck → List ℕ
 deckText deck = judgedText (deckRefusal deck) (deckTree deck)

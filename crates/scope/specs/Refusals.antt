@@ -8,6 +8,7 @@ use lib.ListN.{length, take}
 use lib.Ieee.{Float, fin, lt, le, isNan}
 use Rattle.scope.specs.Floats.{+0, half, whole, isFinite}
 use Rattle.scope.specs.Lists.{every, isEmpty}
+use Rattle.scope.specs.Asked.{Matrix, Shortest}
 
 -- ---- "The lowest number that applies is given."
 
@@ -65,16 +66,16 @@ outside most v = ltb v 1 || ltb most v
 unfoldable pub wrongMatrix : ℕ → List Float → ℕ → ℕ → Bool
 wrongMatrix most cells n d = outside most n || outside mostColumns d || not (eqb (length cells) (n * d))
 
-abbrev pub no1 : ℕ → List Float → ℕ → ℕ → Test
-no1 most cells n d = test (wrongMatrix most cells n d) 1
+abbrev pub no1 : ℕ → Matrix → Test
+no1 most x = test (wrongMatrix most (x .cells) (x .n) (x .d)) 1
 
 -- where there is no matrix, n alone
 abbrev pub no1-rows : ℕ → Test
 no1-rows n = test (outside mostRows n) 1
 
 -- ---- 2: "m outside its size; or a relative length not strictly between 0 and 0.5 (NaN included)"
-abbrev pub no2 : ℕ → Test
-no2 m = test (outside mostLength m) 2
+abbrev pub no2 : Shortest → Test
+no2 s = test (outside mostLength (s .m)) 2
 
 -- strictly between
 unfoldable pub isBetween : Float → Float → Float → Bool
@@ -134,5 +135,5 @@ abbrev pub no8-empty : ℕ → ℕ → Test
 no8-empty start stop = test (eqb start stop) 8
 
 -- ---- 9: "2*m >= stop-start"; permutation counts: "2*m >= L"
-abbrev pub no9 : ℕ → ℕ → Test
-no9 m long = test (leb long (2 * m)) 9
+abbrev pub no9 : Shortest → ℕ → Test
+no9 s long = test (leb long (2 * s .m)) 9

@@ -7,13 +7,14 @@ use lib.Dec.{leb}
 use lib.Ieee.{Float, lt}
 use lib.ListN.{length}
 use Rattle.scope.specs.Lists.{keep}
+use Rattle.scope.specs.Asked.{Shortest}
 use Rattle.scope.specs.Grid.{Record, better, best, search}
 use Rattle.scope.specs.Layers.{Segment, one, stored}
 
 -- a run: its rows, the settings, the segments that were searched beforehand, and the gain of a split x of [start, stop)
 pub record Run : Type 0 where
   pub n : ℕ
-  pub m : ℕ
+  pub shortest : Shortest
   pub threshold : Float
   pub forbidden : List ℕ
   pub seeds : List Segment
@@ -21,7 +22,7 @@ pub record Run : Type 0 where
 
 -- a segment's own search
 abbrev pub direct : Run → ℕ → ℕ → Option Record
-direct q start stop = search (q .gain) (q .m) (q .forbidden) start stop
+direct q start stop = search (q .gain) (q .shortest) (q .forbidden) start stop
 
 -- the records of the seeds, in their order
 unfoldable pub seedRecords : Run → List Record
@@ -120,5 +121,5 @@ unfoldable pub sheet : Tree → List ℕ
 sheet t = map (λ (r : Record). r .split) (cuts t)
 
 -- "B = max(1, 2*floor((n-1)/m)-1)"
-abbrev pub mostNodes : ℕ → ℕ → ℕ
-mostNodes n m = max 1 (2 * ((n - 1) / m) - 1)
+abbrev pub mostNodes : ℕ → Shortest → ℕ
+mostNodes n s = max 1 (2 * ((n - 1) / s .m) - 1)

@@ -6,6 +6,7 @@ use Prim.Native.Nat.{ℕ}
 use native.Mathlib.Omega.{arith}
 use lib.Ieee.{Float}
 use Rattle.scope.specs.Refusals.{Answer, refused, given}
+use Rattle.scope.specs.Asked.{Shortest}
 use Rattle.scope.specs.Grid.{search}
 use Rattle.scope.specs.Calls.{Split}
 use Rattle.rows.specs.declared.Position.{Position}
@@ -24,10 +25,10 @@ refused-number : (a : Answer Split) (k : ℕ) → bestSplitOf a ≡ Refused k �
 refused-number (refused j) k h = cc
 refused-number (given s) k h = let z : _≡_ {A = ℕ} 0 1 = cc in absurd (omega arith)
 
-module _ (gain : ℕ → ℕ → ℕ → Float) (m : ℕ) (forbidden : List ℕ) (start stop : ℕ) where
-  pub found-record : (p : Position) (v : Float) → bestSplitOf (searched gain m forbidden start stop) ≡ Found p v
-      → search gain m forbidden start stop ≡ some (record { start = start; stop = stop; split = p .0; gain = v })
-  found-record p v h = found-search gain m forbidden start stop _ (found-given (searched gain m forbidden start stop) p v h)
+module _ (gain : ℕ → ℕ → ℕ → Float) (short : Shortest) (forbidden : List ℕ) (start stop : ℕ) where
+  pub found-record : (p : Position) (v : Float) → bestSplitOf (searched gain short forbidden start stop) ≡ Found p v
+      → search gain short forbidden start stop ≡ some (record { start = start; stop = stop; split = p .0; gain = v })
+  found-record p v h = found-search gain short forbidden start stop _ (found-given (searched gain short forbidden start stop) p v h)
 
-  pub refused-none : (k : ℕ) → bestSplitOf (searched gain m forbidden start stop) ≡ Refused k → search gain m forbidden start stop ≡ none
-  refused-none k h = refused-search gain m forbidden start stop k (refused-number (searched gain m forbidden start stop) k h)
+  pub refused-none : (k : ℕ) → bestSplitOf (searched gain short forbidden start stop) ≡ Refused k → search gain short forbidden start stop ≡ none
+  refused-none k h = refused-search gain short forbidden start stop k (refused-number (searched gain short forbidden start stop) k h)

@@ -1,6 +1,4 @@
--- Laws of records in lent memory, of the choice among them, of a search's answer, of the layers, and of their records.
-pub mod Chosen
-pub mod Flat
+-- Laws of a search's answer and of the seeded segments' records.
 pub mod Found
-pub mod Layered
 pub mod Stored
+pub mod Clean

@@ -1,4 +1,2 @@
--- How records stand in lent memory, what a layer's struct holds, and the records of segments.
-pub mod Flat
-pub mod Layer
+-- The records of segments.
 pub mod Seeds

@@ -4,7 +4,7 @@ use native.Mathlib.Omega.{arith}
 use denote.Ref.{now}
 use lib.Seq.{length-take-le}
 use Rattle.answers.proofs.Limits.{GivenClean, given-clean}
-use Rattle.answers.proofs.Grown.{room-is, grew}
+use Rattle.answers.proofs.Grown.{grew}
 use borrow.Author.Needs.{needs}
 use Rattle.answers.proofs.grow.Statement.{statement}
 use Rattle.answers.proofs.grow.Tie as tie
@@ -27,9 +27,9 @@ slice-aggregate-split-points-2 c = let f = facts (c .before .before .before .bef
 
 returns : tie.Need-returns
 returns c =
-    let s = c .before .before .before .before .before .before .before .before .before .before .before .before .before .args in
-    let tree = c .split-points .ensures in
-    grew (s .deck) (now (s .cells)) (now (s .forbidden)) _ (now (s .sums)) (now (s .rows)) (now (s .gains)) (now (s .cuts)) _ _ _ _ (c .before .before .before .before .before .before .before .before .threshold .ensures) (room-is (now (s .sums)) (now (s .rows)) (now (s .gains)) (now (s .cuts)) (omega arith) (omega arith) (omega arith) (omega arith)) (tree .0) (tree .1 .1 .0) (tree .1 .1 .1 .0) (tree .1 .1 .1 .1)
+    let s = c .before .before .before .before .before .before .before .before .before .before .before .before .before in
+    let a = s .args in
+    grew (a .deck) (now (a .cells)) (now (a .forbidden)) _ (c .before .before .before .before .before .before .before .before .threshold .ensures) _ _ _ (c .split-points .ensures) (omega arith) (omega arith) (omega arith) (omega arith)
 
 pub grow-spec : {M : Type 1} → statement M
 grow-spec =

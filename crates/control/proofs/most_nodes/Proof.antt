@@ -7,13 +7,13 @@ use Rattle.control.proofs.most_nodes.Statement.{statement}
 use Rattle.control.proofs.most_nodes.Tie as tie
 
 returns : tie.Need-returns
-returns c = let s = c .before .args in let y : (s .n - 1) / s .m < 1 = div-lt-iff-lt-mul (c .before .pre .1) .1 (omega (arith, c .before .pre)) in (omega arith, omega arith)
+returns c = let s = c .before .args in let y : (s .n - 1) / s .shortest .m < 1 = div-lt-iff-lt-mul (c .before .pre .1) .1 (omega (arith, c .before .pre)) in (omega arith, omega arith)
 
 mul-result : tie.Need-mul-result
-mul-result c = let s = c .before .before .args in let y : (s .n - 1) / s .m < 4096 = div-lt-iff-lt-mul (c .before .before .pre .1) .1 (omega (arith, c .before .before .pre)) in omega arith
+mul-result c = let s = c .before .before .before .args in let y : (s .n - 1) / s .shortest .m < 4096 = div-lt-iff-lt-mul (c .before .before .before .pre .1) .1 (omega (arith, c .before .before .before .pre)) in omega arith
 
 returns-3 : tie.Need-returns-3
-returns-3 c = let s = c .before .before .args in let y : (s .n - 1) / s .m < 4096 = div-lt-iff-lt-mul (c .before .before .pre .1) .1 (omega (arith, c .before .before .pre)) in (omega arith, omega arith)
+returns-3 c = let s = c .before .before .before .args in let y : (s .n - 1) / s .shortest .m < 4096 = div-lt-iff-lt-mul (c .before .before .before .pre .1) .1 (omega (arith, c .before .before .before .pre)) in (omega arith, omega arith)
 
 pub most-nodes-spec : {M : Type 1} → statement M
 most-nodes-spec =

@@ -2,7 +2,7 @@
 use mathlib.Core.Path.{refl, sym, _∙_}
 use native.Mathlib.Omega.{arith}
 use denote.Ref.{now}
-use Rattle.segmentation.specs.Flat.{recordsIn}
+use Rattle.stored.specs.Flat.{recordsIn}
 use Rattle.answers.specs.Lines.{firstAt}
 use Rattle.answers.proofs.Looked.{found-is, nothing-is}
 use borrow.Author.Needs.{needs}

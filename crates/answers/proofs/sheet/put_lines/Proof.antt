@@ -4,7 +4,7 @@ use Prim.Native.Nat.{_+_, _-_, _*_, _≤_}
 use native.Mathlib.Omega.{arith}
 use denote.Ref.{now}
 use lib.ListN.{length, take}
-use Rattle.segmentation.specs.Flat.{recordsIn}
+use Rattle.stored.specs.Flat.{recordsIn}
 use Rattle.report.specs.Written.{Written}
 use Rattle.report.proofs.Texts.{written-then, written-length}
 use Rattle.answers.specs.Lines.{linesOf}

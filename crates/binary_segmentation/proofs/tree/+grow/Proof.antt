@@ -30,7 +30,7 @@ use Rattle.rows.specs.declared.Position.{Position}
 use Rattle.optimizer.specs.declared.optimizer_result.GainRecord.{GainRecord}
 use Rattle.scope.specs.Tree.{Run}
 use Rattle.binary_segmentation.specs.declared.node.Node.{Node}
-use Rattle.binary_segmentation.specs.declared.tree.Settings.{Settings}
+use Rattle.binary_segmentation.specs.declared.tree.Asked.{Asked}
 use Rattle.binary_segmentation.specs.declared.tree.Counts.{Counts}
 use Rattle.binary_segmentation.specs.declared.tree.Judged.{Judged}
 use Rattle.binary_segmentation.specs.declared.tree.Judged.the-variants.{Uncut, Cut}
@@ -62,7 +62,7 @@ long (_, (_, (_, (start, (stop, _))))) = stop .0 - start .0
 
 module _ {M : Type 1} (𝓤 : URA M) (H : Heap 𝓤) (A : Atoms 𝓤) (W : Given 𝓤 H A) (C : Calls 𝓤 H) (Λ : Loops 𝓤 H) (fm : FmC 𝓤 H (W .laws) C)
     (known-put : Known 𝓤 H A W putting (C #put-node)) (known-cut : Known 𝓤 H A W making (C #cut)) (known-judge : Known 𝓤 H A W judging (C #judge)) (known-put-cut : Known 𝓤 H A W putting-cut (C #put-cut))
-    (sums : Shared Float) (forbidden : Shared ℕ) (s : Settings) (start stop : Position) (rows : Unique ℕ) (gains : Unique Float) (nodes : Unique Node) (cuts : Unique ℕ) (at : Counts) where
+    (sums : Shared Float) (forbidden : Shared ℕ) (s : Asked) (start stop : Position) (rows : Unique ℕ) (gains : Unique Float) (nodes : Unique Node) (cuts : Unique ℕ) (at : Counts) where
   -- the arguments of a part, at the lists of l
   abbrev part : Position → Position → Lent → Counts → Args (growing .ks)
   part a b l n = (sums, (forbidden, (s, (a, (b, (at-list rows (l .rows), (at-list gains (l .gains), (at-list nodes (l .nodes), (at-list cuts (l .cuts), (n, tt))))))))))

@@ -12,10 +12,10 @@ abbrev answer : tie.Start → Answer ℕ
 answer s = lengthAnswer (s .args .relative) (s .args .n)
 
 returns : tie.Need-returns
-returns c = let a = length-given (answer (c .before .before .before .before)) (c .before .answer .given .0 .0) (sym (c .before .answer .given .1) ∙ c .before .before .before .minimal-segment-length .ensures) in (rw a, rw a)
+returns c = let a = length-given (answer (c .before .before .before .before)) (c .before .answer .given .0 .0) (sym (c .before .answer .given .1) ∙ c .before .before .before .minimal-segment-length .ensures) in record { number = rw a; m = rw a }
 
 returns-2 : tie.Need-returns-2
-returns-2 c = let a = length-refused (answer (c .before .before .before .before)) (c .before .answer2 .given .0 .0) (sym (c .before .answer2 .given .1) ∙ c .before .before .before .minimal-segment-length .ensures) in (rw a, rw a)
+returns-2 c = let a = length-refused (answer (c .before .before .before .before)) (c .before .answer2 .given .0 .0) (sym (c .before .answer2 .given .1) ∙ c .before .before .before .minimal-segment-length .ensures) in record { number = rw a; m = rw a }
 
 pub changeforest-minimal-segment-length-spec : {M : Type 1} → statement M
 changeforest-minimal-segment-length-spec =

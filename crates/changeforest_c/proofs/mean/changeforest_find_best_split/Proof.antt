@@ -2,24 +2,26 @@
 use mathlib.Core.Path.{sym, _∙_}
 use denote.Ref.{now}
 use lib.ListN.{length}
-use Rattle.scope.specs.Refusals.{Answer}
-use Rattle.scope.specs.Calls.{Split, searchAnswer}
+use Rattle.scope.specs.Calls.{SearchAsked, searchCall}
 use Rattle.changeforest_c.proofs.Heard.{best-given, best-refused}
 use borrow.Author.Needs.{needs}
 use Rattle.changeforest_c.proofs.mean.changeforest_find_best_split.Statement.{statement}
 use Rattle.changeforest_c.proofs.mean.changeforest_find_best_split.Tie as tie
 
-abbrev answer : tie.Start → Answer Split
-answer s = searchAnswer (now (s .args .cells)) (s .args .n) (s .args .d) (s .args .m) (now (s .args .forbidden)) (s .args .start) (s .args .stop) (length (now (s .args .sums)))
+abbrev asked : tie.Start → SearchAsked
+asked s = record { matrix = record { cells = now (s .args .cells); n = s .args .n; d = s .args .d }; shortest = record { m = s .args .m }; forbidden = now (s .args .forbidden); start = s .args .start; stop = s .args .stop; room = length (now (s .args .sums)) }
 
 returns : tie.Need-returns
 returns c =
     let f = c .before .before .before .before .before .find-best-split .ensures in
-    let a = best-given (answer (c .before .before .before .before .before .before .before .before .before .before)) (c .before .answer .given .0 .0) (c .before .answer .given .0 .1 .0) (sym (c .before .answer .given .1) ∙ f .0) in
-    (rw a, (f .1, (rw a, rw a)))
+    let a = best-given (searchCall (asked (c .before .before .before .before .before .before .before .before .before .before)) .answer) (c .before .answer .given .0 .0) (c .before .answer .given .0 .1 .0) (sym (c .before .answer .given .1) ∙ f .answer) in
+    record { number = rw a; sums = f .sums; split = rw a; gain = rw a }
 
 returns-2 : tie.Need-returns-2
-returns-2 c = let f = c .before .before .before .before .before .find-best-split .ensures in let a = best-refused (answer (c .before .before .before .before .before .before .before .before .before .before)) (c .before .answer2 .given .0 .0) (sym (c .before .answer2 .given .1) ∙ f .0) in (rw a, (f .1, (rw a, rw a)))
+returns-2 c =
+    let f = c .before .before .before .before .before .find-best-split .ensures in
+    let a = best-refused (searchCall (asked (c .before .before .before .before .before .before .before .before .before .before)) .answer) (c .before .answer2 .given .0 .0) (sym (c .before .answer2 .given .1) ∙ f .answer) in
+    record { number = rw a; sums = f .sums; split = rw a; gain = rw a }
 
 pub changeforest-find-best-split-spec : {M : Type 1} → statement M
 changeforest-find-best-split-spec =

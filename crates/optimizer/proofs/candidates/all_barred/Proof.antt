@@ -8,15 +8,16 @@ use denote.Ref.{now}
 use Rattle.scope.specs.Lists.{isEmpty}
 use Rattle.scope.specs.Candidates.{rangeSize}
 use Rattle.optimizer.proofs.Walk.{walked, none-yet, none-walked, barred-some, barred-all}
+use Rattle.control.specs.Settings.{shortestOf}
 use borrow.Author.Needs.{needs}
 use Rattle.optimizer.proofs.candidates.all_barred.Statement.{statement}
 use Rattle.optimizer.proofs.candidates.all_barred.Tie as tie
 
 abbrev Inv-loop : tie.InvT-loop
-Inv-loop forbidden m first size k₀ k = (k ≤ size) × (isEmpty (walked forbidden first k) ≡ true)
+Inv-loop forbidden first size k₀ k = (k ≤ size) × (isEmpty (walked forbidden first k) ≡ true)
 
 abbrev μ-loop : tie.MeasureT-loop
-μ-loop forbidden m first size k₀ k = size - k
+μ-loop forbidden first size k₀ k = size - k
 
 loop-holds : tie.Need-loop-holds Inv-loop μ-loop
 loop-holds c = (omega arith, none-yet _ _)
@@ -27,17 +28,17 @@ add-t9 c = omega arith
 
 returns : tie.Need-returns Inv-loop μ-loop
 returns c =
-    let s = c .before .before .before .before .before .before .before .args in
-    sym (barred-some (s .m) (now (s .forbidden)) (s .start .0) (s .stop .0) (c .before .before .before .loop .k) (omega arith) (sym (c .before .is-barred .ensures) ∙ not-true (c .before .is-barred .result) (c .if1 .taken)))
+    let s = c .before .before .before .before .before .before .before .before .args in
+    sym (barred-some (shortestOf (s .shortest)) (now (s .forbidden)) (s .start .0) (s .stop .0) (c .before .before .before .loop .k) (omega arith) (sym (c .before .is-barred .ensures) ∙ not-true (c .before .is-barred .result) (c .if1 .taken)))
 
 loop-again : tie.Need-loop-again Inv-loop μ-loop
 loop-again c = (omega arith, none-walked _ _ (c .before .before .before .loop .k) (sym (c .before .is-barred .ensures) ∙ not-false (c .before .is-barred .result) (c .if1 .left)) (c .before .before .before .loop .inv .1))
 
 returns-2 : tie.Need-returns-2 Inv-loop μ-loop
 returns-2 c =
-    let s = c .before .before .before .before .before .args in
+    let s = c .before .before .before .before .before .before .args in
     let e : c .before .loop .k ≡ c .before .before .range-size .result = omega arith in
-    rw (c .before .before .range-size .ensures) (barred-all (s .m) (now (s .forbidden)) (s .start .0) (s .stop .0) (rw (← c .before .before .range-size .ensures, ← e) (c .before .loop .inv .1)))
+    rw (c .before .before .range-size .ensures) (barred-all (shortestOf (s .shortest)) (now (s .forbidden)) (s .start .0) (s .stop .0) (rw (← c .before .before .range-size .ensures, ← e) (c .before .loop .inv .1)))
 
 pub all-barred-spec : {M : Type 1} → statement M
 all-barred-spec =

@@ -6,35 +6,36 @@ use native.Mathlib.Omega.{arith}
 use borrow.Author.Tests.{not-true, not-false}
 use denote.Ref.{now}
 use Rattle.optimizer.proofs.Walk.{State, begins, passed, stored, walked-all}
+use Rattle.control.specs.Settings.{shortestOf}
 use borrow.Author.Needs.{needs}
 use Rattle.optimizer.proofs.candidates.split_candidates.Statement.{statement}
 use Rattle.optimizer.proofs.candidates.split_candidates.Tie as tie
 
 abbrev Inv-loop : tie.InvT-loop
-Inv-loop forbidden m rows₀ first size count₀ k₀ rows count k = State forbidden first size rows₀ rows count k
+Inv-loop forbidden rows₀ first size count₀ k₀ rows count k = State forbidden first size rows₀ rows count k
 
 abbrev μ-loop : tie.MeasureT-loop
-μ-loop forbidden m rows₀ first size count₀ k₀ rows count k = size - k
+μ-loop forbidden rows₀ first size count₀ k₀ rows count k = size - k
 
 loop-holds : tie.Need-loop-holds Inv-loop μ-loop
 loop-holds c = begins _ _ _ _
 
 loop-again : tie.Need-loop-again Inv-loop μ-loop
 loop-again c =
-    let s = c .before .before .before .before .before .before .before .before .args in
+    let s = c .before .before .before .before .before .before .before .before .before .args in
     let at = c .before .before .before .loop in
     let b = c .before .is-barred in
     ⊎-elim
-    (λ w. rw (w .1, w .2) (stored (now (s .forbidden)) (s .start .0 + s .m) (c .before .before .before .before .range-size .result) (now (s .rows)) (at .rows) (at .count) (at .k) (omega arith) (at .inv) (omega arith) (sym (b .ensures) ∙ not-true (b .result) (w .0 .taken))))
-    (λ w. rw (w .1, w .2) (passed (now (s .forbidden)) (s .start .0 + s .m) (c .before .before .before .before .range-size .result) (now (s .rows)) (at .rows) (at .count) (at .k) (omega arith) (at .inv) (sym (b .ensures) ∙ not-false (b .result) (w .0 .left))))
+    (λ w. rw (w .1, w .2) (stored (now (s .forbidden)) (s .start .0 + s .shortest .m) (c .before .before .before .before .range-size .result) (now (s .rows)) (at .rows) (at .count) (at .k) (omega arith) (at .inv) (omega arith) (sym (b .ensures) ∙ not-true (b .result) (w .0 .taken))))
+    (λ w. rw (w .1, w .2) (passed (now (s .forbidden)) (s .start .0 + s .shortest .m) (c .before .before .before .before .range-size .result) (now (s .rows)) (at .rows) (at .count) (at .k) (omega arith) (at .inv) (sym (b .ensures) ∙ not-false (b .result) (w .0 .left))))
     (c .if1 .came)
 
 returns : tie.Need-returns Inv-loop μ-loop
 returns c =
-    let s = c .before .before .before .before .before .before .args in
+    let s = c .before .before .before .before .before .before .before .args in
     let i = c .before .loop .inv in
     let e : c .before .loop .k ≡ c .before .before .range-size .result = omega arith in
-    let all = walked-all (s .m) (now (s .forbidden)) (s .start .0) (s .stop .0) in
+    let all = walked-all (shortestOf (s .shortest)) (now (s .forbidden)) (s .start .0) (s .stop .0) in
     (rw (← all, ← c .before .before .range-size .ensures, ← e) (i .told), rw (← all, ← c .before .before .range-size .ensures, ← e) (i .held))
 
 pub split-candidates-spec : {M : Type 1} → statement M

@@ -1,0 +1,77 @@
+-- What each export answers: 0 or the number; and what it leaves in lent slices and stores through lent places, each before and after.
+use mathlib.Core.Path.{_≡_}
+use mathlib.Core.Bool.{Bool}
+use mathlib.Core.List.{List, map}
+use Prim.Native.Nat.{ℕ}
+use lib.Ieee.{Float}
+use Rattle.scope.specs.Lists.{holding}
+use Rattle.scope.specs.Asked.{Matrix, Shortest, Settings}
+use Rattle.scope.specs.Calls.{lengthAnswer, CandidatesAsked, candidatesCall, GainAsked, gainCall, SearchAsked, searchCall, seededCall, PickAsked, pickAnswer, GuessesAsked, guessesAnswer, PermutationAsked, permutationAnswer}
+use Rattle.stored.specs.Flat.{flatRows, gainsOf}
+use Rattle.segmentation.specs.Seeds.{Slices as RecordSlices, seededAsked}
+use Rattle.binary_segmentation.specs.Nodes.{toNode}
+use Rattle.entry_tree.specs.Left.{Slices, treeTold}
+use Rattle.told.specs.Told.{numberOf, valueOr, splitOr, gainOr, entryOr, lengthOr, counterOr, pOr, significantOr, countsOr}
+
+-- the minimal length
+pub record LengthStored (relative : Float) (n r m₀ m₁ : ℕ) : Type 0 where
+  pub number : r ≡ numberOf (lengthAnswer relative n)
+  pub m : m₁ ≡ valueOr (lengthAnswer relative n) m₀
+
+-- the candidates, and how many
+pub record CandidatesStored (a : CandidatesAsked) (r : ℕ) (rows₀ rows₁ : List ℕ) (count₀ count₁ : ℕ) : Type 0 where
+  pub number : r ≡ numberOf (candidatesCall a .answer)
+  pub rows : rows₁ ≡ holding (candidatesCall a .rows) rows₀
+  pub count : count₁ ≡ valueOr (candidatesCall a .answer) count₀
+
+-- the gain, and the prefix sums
+pub record GainStored (a : GainAsked) (r : ℕ) (sums₀ sums₁ : List Float) (gain₀ gain₁ : Float) : Type 0 where
+  pub number : r ≡ numberOf (gainCall a .answer)
+  pub sums : sums₁ ≡ holding (gainCall a .sums) sums₀
+  pub gain : gain₁ ≡ valueOr (gainCall a .answer) gain₀
+
+-- the best split with its gain, and the prefix sums
+pub record SearchStored (a : SearchAsked) (r : ℕ) (sums₀ sums₁ : List Float) (split₀ split₁ : ℕ) (gain₀ gain₁ : Float) : Type 0 where
+  pub number : r ≡ numberOf (searchCall a .answer)
+  pub sums : sums₁ ≡ holding (searchCall a .sums) sums₀
+  pub split : split₁ ≡ splitOr (searchCall a .answer) split₀
+  pub gain : gain₁ ≡ gainOr (searchCall a .answer) gain₀
+
+-- the seeded segments' records, how many, and the prefix sums
+pub record SeededStored (x : Matrix) (short : Shortest) (forbidden : List ℕ) (layers : List Float) (r : ℕ) (before after : RecordSlices) (count₀ count₁ : ℕ) : Type 0 where
+  pub number : r ≡ numberOf (seededCall (seededAsked x short forbidden layers before) .answer)
+  pub sums : after .sums ≡ holding (seededCall (seededAsked x short forbidden layers before) .sums) (before .sums)
+  pub rows : after .rows ≡ holding (flatRows (seededCall (seededAsked x short forbidden layers before) .records)) (before .rows)
+  pub gains : after .gains ≡ holding (gainsOf (seededCall (seededAsked x short forbidden layers before) .records)) (before .gains)
+  pub count : count₁ ≡ valueOr (seededCall (seededAsked x short forbidden layers before) .answer) count₀
+
+-- the tree's nodes, its records, its cuts, the prefix sums, and the three counts
+pub record TreeStored (x : Matrix) (s : Settings) (r : ℕ) (before after : Slices) (counts₀ counts₁ : List ℕ) : Type 0 where
+  pub number : r ≡ numberOf (treeTold x s before .answer)
+  pub sums : after .sums ≡ holding (treeTold x s before .sums) (before .sums)
+  pub rows : after .rows ≡ holding (flatRows (treeTold x s before .records)) (before .rows)
+  pub gains : after .gains ≡ holding (gainsOf (treeTold x s before .records)) (before .gains)
+  pub nodes : after .nodes ≡ holding (map toNode (treeTold x s before .nodes)) (before .nodes)
+  pub cuts : after .cuts ≡ holding (treeTold x s before .cuts) (before .cuts)
+  pub counts : counts₁ ≡ countsOr (treeTold x s before .answer) counts₀
+
+-- the pick and its gain
+pub record PickStored (a : PickAsked) (r split₀ split₁ : ℕ) (gain₀ gain₁ : Float) : Type 0 where
+  pub number : r ≡ numberOf (pickAnswer a)
+  pub split : split₁ ≡ splitOr (pickAnswer a) split₀
+  pub gain : gain₁ ≡ gainOr (pickAnswer a) gain₀
+
+-- one to three guesses, and how many
+pub record GuessesStored (a : GuessesAsked) (r first₀ first₁ second₀ second₁ third₀ third₁ count₀ count₁ : ℕ) : Type 0 where
+  pub number : r ≡ numberOf (guessesAnswer a)
+  pub first : first₁ ≡ entryOr (guessesAnswer a) 0 first₀
+  pub second : second₁ ≡ entryOr (guessesAnswer a) 1 second₀
+  pub third : third₁ ≡ entryOr (guessesAnswer a) 2 third₀
+  pub count : count₁ ≡ lengthOr (guessesAnswer a) count₀
+
+-- a test's counter, p and whether it is significant
+pub record PermutationStored (a : PermutationAsked) (r counter₀ counter₁ : ℕ) (p₀ p₁ : Float) (significant₀ significant₁ : Bool) : Type 0 where
+  pub number : r ≡ numberOf (permutationAnswer a)
+  pub counter : counter₁ ≡ counterOr (permutationAnswer a) counter₀
+  pub p : p₁ ≡ pOr (permutationAnswer a) p₀
+  pub significant : significant₁ ≡ significantOr (permutationAnswer a) significant₀

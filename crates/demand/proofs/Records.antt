@@ -1,0 +1,128 @@
+-- Where records come from: a search's record, and the seeds'. Assumes nothing.
+use mathlib.Core.Path.{_≡_, refl, sym, ap}
+use mathlib.Core.Logic.{_↔_, ⊎-elim}
+use mathlib.Core.Bool.{true, false}
+use mathlib.Core.List.{List, [], _∷_, List·Memᴰ·head, List·Memᴰ·tail, List·Memᴰ·not-nil, List·Memᴰ·cases-cons, List·Memᴰ·append-cases, Memᴰ·append-left, Memᴰ·append-right, List·Memᴰ·eq-of-singleton, Memᴰ·of-map, Memᴰ·map}
+use mathlib.Core.Option.{Option, none, some}
+use Prim.Native.Nat.{ℕ}
+use native.Mathlib.Omega.{arith}
+use lib.Ieee.{Float, nan, inf, fin, lt}
+use Rattle.scope.specs.Lists.{_∈_}
+use Rattle.scope.specs.Floats.{lowest}
+use Rattle.scope.specs.Allowed.{Allowed}
+use Rattle.scope.specs.Candidates.{candidates}
+use Rattle.scope.specs.Greatest.{numeric, FirstGreatest}
+use Rattle.scope.specs.Grid.{Record, best, blank, trial, trials, ofSome, search}
+use Rattle.scope.specs.Layers.{Segment, one, stored}
+use Rattle.scope.specs.Tree.{Run, direct, seedRecords}
+use Rattle.scope.proofs.Order.{both}
+use Rattle.scope.proofs.Candidates.{candidates-are}
+use Rattle.scope.proofs.Greatest.{best-is-first, first-one, first-greatest, first-numeric}
+
+pub zero-one : {X : Type 0} → _≡_ {A = ℕ} 0 1 → X
+zero-one z = absurd (omega arith)
+
+pub not-above-lowest : (t : Float) → lt t lowest ≡ false
+unfolding lt
+not-above-lowest nan = refl
+not-above-lowest (inf true) = refl
+not-above-lowest (inf false) = refl
+not-above-lowest (fin s m e) = refl
+
+-- ---- what a search of [start, stop) finds: a record with these ends, and a gain above anything is that of an allowed row
+pub record Found (q : Run) (start stop : ℕ) (r : Record) : Type 0 where
+  pub start-is : r .start ≡ start
+  pub stop-is : r .stop ≡ stop
+  pub row : (t : Float) → lt t (r .gain) ≡ true → Allowed (q .shortest) (q .forbidden) start stop (r .split)
+  pub own : (t : Float) → lt t (r .gain) ≡ true → r .gain ≡ q .gain start stop (r .split)
+
+module _ (q : Run) (start stop : ℕ) where
+  abbrev pub rows : List ℕ
+  rows = candidates (q .shortest) (q .forbidden) start stop
+
+  abbrev pub tries : List Record
+  tries = trials (q .gain) (q .shortest) (q .forbidden) start stop
+
+  pub allowed : (x : ℕ) → x ∈ rows ↔ Allowed (q .shortest) (q .forbidden) start stop x
+  allowed x = candidates-are (q .shortest) (q .forbidden) start stop x
+
+  blank-found : Found q start stop (blank start stop)
+  blank-found = record { start-is = refl; stop-is = refl; row = λ t h. both h (not-above-lowest t); own = λ t h. both h (not-above-lowest t) }
+
+  trial-found : (r : Record) → r ∈ tries → Found q start stop r
+  unfolding trials
+  trial-found r i =
+      let (x, j, e) = Memᴰ·of-map (trial (q .gain) start stop) rows i in
+      rw (← e) (record { start-is = refl; stop-is = refl; row = λ t h. allowed x .0 j; own = λ t h. refl })
+
+  trial-in : (x : ℕ) → Allowed (q .shortest) (q .forbidden) start stop x → trial (q .gain) start stop x ∈ tries
+  unfolding trials
+  trial-in x w = Memᴰ·map (trial (q .gain) start stop) (allowed x .1 w)
+
+  -- the direct record is the first of the greatest trials, from the blank record on
+  pub direct-first : (r : Record) → direct q start stop ≡ some r → FirstGreatest (blank start stop) tries r
+  unfolding search
+  direct-first r h = go tries h (best-is-first (blank start stop) tries)
+    where
+      go : (l : List Record) → ofSome (blank start stop) l ≡ some r → FirstGreatest (blank start stop) l (best (blank start stop) l) → FirstGreatest (blank start stop) l r
+      go [] h f = zero-one (cc)
+      go (x ∷ l) h f = let w : best (blank start stop) (x ∷ l) ≡ r = cc in rw w at f
+
+  module _ (r : Record) (is : direct q start stop ≡ some r) where
+    pub direct-found : Found q start stop r
+    direct-found = ⊎-elim (λ (e : r ≡ blank start stop). rw e blank-found) (trial-found r) (List·Memᴰ·cases-cons (first-one (direct-first r is)))
+
+    pub direct-numeric : numeric (r .gain) ≡ true
+    direct-numeric = first-numeric (direct-first r is) refl
+
+    -- no allowed row has a greater gain
+    pub direct-above : (x : ℕ) → Allowed (q .shortest) (q .forbidden) start stop x → lt (r .gain) (q .gain start stop x) ≡ false
+    direct-above x w = first-greatest (direct-first r is) (trial (q .gain) start stop x) (List·Memᴰ·tail (trial-in x w))
+
+  -- where a row is allowed, the search finds something
+  pub direct-some : (x : ℕ) → Allowed (q .shortest) (q .forbidden) start stop x → (r : Record) × (direct q start stop ≡ some r)
+  unfolding search
+  direct-some x w = go tries (trial-in x w)
+    where
+      go : (l : List Record) → trial (q .gain) start stop x ∈ l → (r : Record) × (ofSome (blank start stop) l ≡ some r)
+      go [] i = absurd (List·Memᴰ·not-nil i)
+      go (y ∷ l) i = (best (blank start stop) (y ∷ l), refl)
+
+  pub one-found : (r : Record) → r ∈ one (direct q start stop) → direct q start stop ≡ some r
+  one-found r i = go (direct q start stop) i
+    where
+      go : (o : Option Record) → r ∈ one o → o ≡ some r
+      go none i = absurd (List·Memᴰ·not-nil i)
+      go (some x) i = ap some (sym (List·Memᴰ·eq-of-singleton i))
+
+-- ---- the records of the seeds
+-- r is the record of a seed
+pub record Seeded (q : Run) (ss : List Segment) (r : Record) : Type 0 where
+  pub seed : Segment
+  pub one : seed ∈ ss
+  pub found : direct q (seed .start) (seed .stop) ≡ some r
+
+module _ (q : Run) where
+  stored-are : (ss : List Segment) (r : Record) → r ∈ stored (direct q) ss → Seeded q ss r
+  unfolding stored
+  stored-are [] r i = absurd (List·Memᴰ·not-nil i)
+  stored-are (s ∷ ss) r i =
+      ⊎-elim (λ j. record { seed = s; one = List·Memᴰ·head refl; found = one-found q (s .start) (s .stop) r j })
+      (λ j. let f = stored-are ss r j in record { seed = f .seed; one = List·Memᴰ·tail (f .one); found = f .found })
+      (List·Memᴰ·append-cases (one (direct q (s .start) (s .stop))) i)
+
+  stored-all : (ss : List Segment) (s : Segment) (r : Record) → s ∈ ss → direct q (s .start) (s .stop) ≡ some r → r ∈ stored (direct q) ss
+  unfolding stored
+  stored-all [] s r i h = absurd (List·Memᴰ·not-nil i)
+  stored-all (z ∷ ss) s r i h =
+      ⊎-elim (λ e. Memᴰ·append-left {s = one (direct q (z .start) (z .stop))} _ (rw (← e, h) (List·Memᴰ·head refl)))
+      (λ j. Memᴰ·append-right (one (direct q (z .start) (z .stop))) (stored-all ss s r j h))
+      (List·Memᴰ·cases-cons i)
+
+  pub seeds-are : (r : Record) → r ∈ seedRecords q → Seeded q (q .seeds) r
+  unfolding seedRecords
+  seeds-are r i = stored-are (q .seeds) r i
+
+  pub seeds-all : (s : Segment) (r : Record) → s ∈ q .seeds → direct q (s .start) (s .stop) ≡ some r → r ∈ seedRecords q
+  unfolding seedRecords
+  seeds-all s r i h = stored-all (q .seeds) s r i h

@@ -1,0 +1,70 @@
+-- How many nodes, cuts and records there are at most. Assumes nothing.
+use mathlib.Core.Path.{_≡_, refl, _∙_, ap}
+use mathlib.Core.List.{List, [], _∷_, _++_}
+use mathlib.Core.Option.{Option, none, some}
+use Prim.Native.Nat.{ℕ, zero, suc, _+_, _-_, _*_, _/_, _≤_}
+use native.Mathlib.Nat.{le-div-iff-mul-le}
+use native.Mathlib.Numerals.{add-one}
+use native.Mathlib.Omega.{arith}
+use lib.Ieee.{Float}
+use lib.ListN.{length, length-append}
+use Rattle.scope.specs.Grid.{Record}
+use Rattle.scope.specs.Layers.{Segment, layerCount, layerSegments, seeded, layersTotal, one, stored}
+use Rattle.scope.specs.Tree.{Run, direct, seedRecords, Tree, leaf, node, nodes, nodeCount, cuts, sheet, mostNodes}
+use Rattle.demand.specs.Grows.{Grows, directs}
+use Rattle.demand.proofs.Sheet.{sheet-node, spaced-least, sheet-spaced}
+
+-- two nodes for each cut, and one
+pub count-sheet : (t : Tree) → nodeCount t ≡ suc (2 * length (sheet t))
+unfolding nodeCount sheet cuts
+count-sheet (leaf start stop o) = refl
+count-sheet (node start stop r s t) = rw (sheet-node start stop r s t) (omega (arith, count-sheet s, count-sheet t, length-append (sheet s) (r .split ∷ sheet t)))
+
+pub count-nodes : (p : ℕ) (t : Tree) → nodeCount t ≡ length (nodes p t)
+unfolding nodeCount nodes
+count-nodes p (leaf start stop o) = refl
+count-nodes p (node start stop r s t) = ap suc (omega (arith, length-append (nodes (p + 1) s) (nodes (p + 1 + nodeCount s) t), count-nodes (p + 1) s, count-nodes (p + 1 + nodeCount s) t))
+
+module _ (q : Run) (least : 1 ≤ q .shortest .m) (T : Tree) (whole : Grows q 0 (q .n) T) where
+  pub nodes-few : nodeCount T ≤ mostNodes (q .n) (q .shortest)
+  nodes-few = go (length (sheet T)) refl
+    where
+      go : (k : ℕ) → length (sheet T) ≡ k → nodeCount T ≤ mostNodes (q .n) (q .shortest)
+      go zero h = omega (arith, count-sheet T)
+      go (suc k) h =
+          let sp = spaced-least (q .shortest .m) (suc (q .shortest .m)) 0 (sheet T) (q .n) (sheet-spaced q T whole (omega arith)) in
+          let mul : length (sheet T) * q .shortest .m ≡ suc k * q .shortest .m = ap (λ (x : ℕ). x * q .shortest .m) h in
+          let up : suc (suc k) * q .shortest .m ≤ q .n - 1 = omega arith in
+          omega (arith, count-sheet T, le-div-iff-mul-le least .1 up)
+
+  pub cuts-few : length (sheet T) ≤ (mostNodes (q .n) (q .shortest) - 1) / 2
+  cuts-few = omega (arith, nodes-few, count-sheet T)
+
+one-few : (o : Option Record) → length (one o) ≤ 1
+one-few none = omega arith
+one-few (some r) = omega arith
+
+directs-few : (q : Run) (t : Tree) → length (directs q t) ≤ nodeCount t
+unfolding directs nodeCount
+directs-few q (leaf start stop o) = one-few (direct q start stop)
+directs-few q (node start stop r s t) = simp length-append (omega (arith, one-few (direct q start stop), directs-few q s, directs-few q t))
+
+stored-few : (find : ℕ → ℕ → Option Record) (ss : List Segment) → length (stored find ss) ≤ length ss
+unfolding stored
+stored-few find [] = omega arith
+stored-few find (s ∷ ss) = simp length-append (omega (arith, one-few (find (s .start) (s .stop)), stored-few find ss))
+
+pub records-few : (q : Run) (t : Tree) → length (seedRecords q ++ directs q t) ≤ length (q .seeds) + nodeCount t
+unfolding seedRecords
+records-few q t = simp length-append (omega (arith, stored-few (direct q) (q .seeds), directs-few q t))
+
+-- the seeded segments number T
+length-layer : (n : ℕ) (v : Float) (k : ℕ) → length (layerSegments n v k) ≡ k
+unfolding layerSegments
+length-layer n v zero = refl
+length-layer n v (suc k) = length-append (layerSegments n v k) _ ∙ rw (length-layer n v k, add-one)
+
+pub length-seeded : (n : ℕ) (layers : List Float) → length (seeded n layers) ≡ layersTotal layers
+unfolding seeded layersTotal
+length-seeded n [] = refl
+length-seeded n (v ∷ vs) = length-append (layerSegments n v (layerCount v)) (seeded n vs) ∙ rw (length-layer n v (layerCount v), length-seeded n vs)

@@ -1,0 +1,2 @@
+-- For each lent slice: what it holds afterwards.
+pub mod Left

@@ -1,0 +1,67 @@
+-- `seeded_segments` meets its contract: a number, and nothing is told; or the records, with the sums left.
+use mathlib.Core.Path.{_≡_, refl, sym, _∙_, ap}
+use denote.Ref.{now}
+use lib.ListN.{length}
+use Rattle.scope.specs.Calls.{sumsOf, SeededAsked, seededRefusal, seededOf, seededCall}
+use Rattle.control.specs.Settings.{shortestOf}
+use Rattle.control.proofs.Follows.{answer-refused, held-refused, answer-given, held-given}
+use Rattle.stored.specs.Flat.{flatRows, gainsOf}
+use Rattle.segmentation.specs.Seeds.{seededAsked}
+use Rattle.entry_mean.specs.Answers.{countOf}
+use Rattle.entry_mean.specs.declared.Count.the-variants.{Written}
+use borrow.Author.Needs.{needs}
+use Rattle.entry_segments.proofs.seeded_segments.Statement.{statement}
+use Rattle.entry_segments.proofs.seeded_segments.Tie as tie
+
+abbrev asked : tie.Start → SeededAsked
+asked s =
+    let a = s .args in
+    seededAsked (record { cells = now (a .cells); n = a .n; d = a .d }) (shortestOf (a .shortest)) (now (a .forbidden)) (now (a .layers)) (record { sums = now (a .sums); rows = now (a .rows); gains = now (a .gains) })
+
+-- the number is that of what is asked
+number : (c : tie.After-seeded-refusal) → c .seeded-refusal .result ≡ seededRefusal (asked (c .before .before .before .before .before .before .before .before))
+number c = rw (← c .before .record-room .ensures) (c .seeded-refusal .ensures)
+
+returns : tie.Need-returns
+unfolding seededCall
+returns c =
+    let s = c .before .before .before .before .before .before .before .before .before in
+    let a = asked s in
+    let is = number (c .before) in
+    record {
+      answer = ap countOf (answer-refused is (c .if1 .taken) (length (seededOf a)));
+      sums = held-refused is (c .if1 .taken) (λ l. l) (sumsOf (a .matrix)) (now (s .args .sums)) refl;
+      rows = held-refused is (c .if1 .taken) flatRows (seededOf a) (now (s .args .rows)) refl;
+      gains = held-refused is (c .if1 .taken) gainsOf (seededOf a) (now (s .args .gains)) refl;
+    }
+
+store-seeded-requires : tie.Need-store-seeded-requires
+store-seeded-requires c κs = sym (number (c .before .before .before .before)) ∙ c .before .before .before .if1 .left
+
+returns-2 : tie.Need-returns-2
+unfolding seededCall
+returns-2 c =
+    let s = c .before .before .before .before .before .before .before .before .before .before .before .before .before .before .before .before .before .before .before in
+    let a = asked s in
+    let is = number (c .before .before .before .before .before .before .before .before .before .before .before) in
+    let none = c .before .before .before .before .before .before .before .before .before .before .if1 .left in
+    let told = c .before .before .before .before .before .before .store-seeded .ensures in
+    record {
+      answer = ap Written (told .count) ∙ ap countOf (answer-given is none (length (seededOf a)));
+      sums = held-given is none (λ l. l) (sumsOf (a .matrix)) (now (s .args .sums)) (told .sums);
+      rows = held-given is none flatRows (seededOf a) (now (s .args .rows)) (told .rows);
+      gains = held-given is none gainsOf (seededOf a) (now (s .args .gains)) (told .gains);
+    }
+
+pub seeded-segments-spec : {M : Type 1} → statement M
+seeded-segments-spec =
+    tie.close
+    (tie.spec
+    (λ c κs. search needs)
+    (λ c κs. search needs)
+    returns
+    store-seeded-requires
+    (λ c. search needs)
+    (λ c. search needs)
+    (λ c. search needs)
+    returns-2)

@@ -1,0 +1,2 @@
+-- What the call leaves.
+pub mod Left

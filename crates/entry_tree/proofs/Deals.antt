@@ -1,0 +1,68 @@
+-- What the functions that a walk calls ask and say, each as its contract has it, and the plain data that they pass. Assumes nothing.
+use mathlib.Core.List.{[], _∷_}
+use Prim.Native.Nat.{ℕ}
+use denote.Builtin.{usize, f64}
+use denote.Ref.{now}
+use denote.Enum.Laws as EL
+use Rattle.lent.proofs.Data.{Datum, Fit, word, of-enum}
+use Rattle.lent.proofs.Held.{Deal, unique, shared, plain}
+use Rattle.binary_segmentation.specs.declared.tree.Counts.{Counts}
+use Rattle.binary_segmentation.proofs.Data.{node, settings, counts}
+use Rattle.entry_tree.specs.declared.Grown.the-variants.{Counted, Refused}
+use Rattle.prepared.specs.declared.Prepared.the-variants.{Seeded, Refused as Unprepared}
+use Rattle.control.specs.Settings.{settingsOf}
+use Rattle.prepared.specs.Answers.{treeAsked, Prepares}
+use Rattle.entry_tree.specs.Left.{TreeLeft, PointsLeft}
+use Rattle.entry_tree.proofs.Grown as grown′
+use Rattle.entry_tree.proofs.Grown.Laws as grown″
+use Rattle.prepared.proofs.Prepared as prepared′
+use Rattle.prepared.proofs.Prepared.Laws as prepared″
+
+abbrev pub grown : Datum
+grown = of-enum grown′.the-type grown″.the-laws grown″.the-plain grown″.the-copy tt
+
+abbrev pub prepared : Datum
+prepared = of-enum prepared′.the-type prepared″.the-laws prepared″.the-plain prepared″.the-copy tt
+
+-- ---- what fits has parts that fit, and what has parts that fit does
+pub seeded-fits : (len count : ℕ) → Fit prepared (Seeded len count) → Fit word len × Fit word count
+seeded-fits len count is = let h = EL.owed prepared′.the-type prepared″.the-laws (Seeded len count) _ is in (h .0, h .1 .0)
+
+pub refused-fits : (k : ℕ) → Fit prepared (Unprepared k) → Fit grown (Refused k)
+refused-fits k is = EL.owes grown′.the-type grown″.the-laws (Refused k) (EL.owed prepared′.the-type prepared″.the-laws (Unprepared k) _ is)
+
+pub counted-fits : (n : Counts) → Fit counts n → Fit grown (Counted n)
+counted-fits n is = EL.owes grown′.the-type grown″.the-laws (Counted n) (is, tt)
+
+-- ---- prepared::prepare
+abbrev pub preparing : Deal
+preparing = record {
+  ks = shared f64 ∷ plain word ∷ plain word ∷ plain settings ∷ shared usize ∷ shared f64 ∷ unique f64 ∷ unique usize ∷ unique f64 ∷ plain word ∷ plain word ∷ [];
+  res = prepared;
+  asks = λ _. Unit {0};
+  says = λ (cells, (n, (d, (s, (forbidden, (layers, (sums, (rows, (gains, (nodes, (cuts, _))))))))))) r (_, (_, (_, (_, (_, (_, (sums′, (rows′, (gains′, _))))))))).
+      Prepares (treeAsked (record { cells = now (cells .x); n = n; d = d }) (settingsOf s (now (forbidden .x)) (now (layers .x))) (record { sums = sums .list; rows = rows .list; gains = gains .list }) nodes cuts) r
+      (record { sums = sums .list; rows = rows .list; gains = gains .list }) (record { sums = sums′; rows = rows′; gains = gains′ });
+}
+
+-- ---- binary_segmentation
+abbrev pub answering : Deal
+answering = record {
+  ks = shared f64 ∷ plain word ∷ plain word ∷ plain settings ∷ shared usize ∷ shared f64 ∷ unique f64 ∷ unique usize ∷ unique f64 ∷ unique (node .row) ∷ unique usize ∷ [];
+  res = grown;
+  asks = λ _. Unit {0};
+  says = λ (cells, (n, (d, (s, (forbidden, (layers, (sums, (rows, (gains, (nodes, (cuts, _))))))))))) r (_, (_, (_, (_, (_, (_, (sums′, (rows′, (gains′, (nodes′, (cuts′, _))))))))))).
+      TreeLeft (record { cells = now (cells .x); n = n; d = d }) (settingsOf s (now (forbidden .x)) (now (layers .x))) r
+      (record { sums = sums .list; rows = rows .list; gains = gains .list; nodes = nodes .list; cuts = cuts .list }) (record { sums = sums′; rows = rows′; gains = gains′; nodes = nodes′; cuts = cuts′ });
+}
+
+-- ---- split_points
+abbrev pub splitting : Deal
+splitting = record {
+  ks = shared f64 ∷ plain word ∷ plain word ∷ plain settings ∷ shared usize ∷ shared f64 ∷ unique f64 ∷ unique usize ∷ unique f64 ∷ unique usize ∷ [];
+  res = grown;
+  asks = λ _. Unit {0};
+  says = λ (cells, (n, (d, (s, (forbidden, (layers, (sums, (rows, (gains, (cuts, _)))))))))) r (_, (_, (_, (_, (_, (_, (sums′, (rows′, (gains′, (cuts′, _)))))))))).
+      PointsLeft (record { cells = now (cells .x); n = n; d = d }) (settingsOf s (now (forbidden .x)) (now (layers .x))) r
+      (record { sums = sums .list; rows = rows .list; gains = gains .list; cuts = cuts .list }) (record { sums = sums′; rows = rows′; gains = gains′; cuts = cuts′ });
+}

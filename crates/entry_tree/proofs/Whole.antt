@@ -1,0 +1,149 @@
+-- A call for the tree, from what is prepared to what is grown. Assumes nothing.
+use mathlib.Core.Path.{_≡_, refl, sym, _∙_, ap}
+use mathlib.Core.List.{List, _++_, map}
+use Prim.Native.Nat.{ℕ, zero, suc, _≤_}
+use native.Mathlib.Omega.{arith}
+use lib.Ieee.{Float}
+use lib.ListN.{length, take, drop, length-append}
+use lib.Seq.{drop-append-add, drop-drop}
+use Rattle.scope.specs.Lists.{holding}
+use Rattle.scope.specs.Asked.{Matrix}
+use Rattle.scope.specs.Asked as asked
+use Rattle.scope.specs.Refusals.{unless, toldUnless}
+use Rattle.scope.specs.Sums.{prefixSums}
+use Rattle.scope.specs.Layers.{seeded, layersTotal}
+use Rattle.scope.specs.Tree.{Run, direct, seedRecords, grown, recordsOf, treeOf, nodes, sheet}
+use Rattle.scope.specs.Calls.{sumsOf, sumsRoom, TreeAsked, runOf, countsOf, treeRefusal, treeCall}
+use Rattle.scope.proofs.Sums.{length-flat}
+use Rattle.control.specs.Settings.{settingsOf}
+use Rattle.control.specs.declared.Settings.{Settings}
+use Rattle.control.proofs.Follows.{answer-refused, held-refused, answer-given, held-given}
+use Rattle.change_in_mean.proofs.Room.{sums-are, sums-part}
+use Rattle.stored.specs.Flat.{flatRows, gainsOf}
+use Rattle.stored.proofs.Flat.{rows-append, gains-append, records-told}
+use Rattle.segmentation.specs.Seeds.{Slices as RecordSlices}
+use Rattle.segmentation.proofs.Stored.{seeds-few}
+use Rattle.binary_segmentation.specs.declared.tree.Asked.{Asked}
+use Rattle.binary_segmentation.specs.declared.tree.Counts.{Counts}
+use Rattle.binary_segmentation.specs.Nodes.{toNode}
+use Rattle.binary_segmentation.specs.Growth.{runOver, Lent, stored, Sized, Ready, Holds, Segmented}
+use Rattle.prepared.specs.declared.Prepared.the-variants.{Seeded, Refused as Unprepared}
+use Rattle.prepared.specs.Answers.{treeAsked, seedsOf, preparedOf, Prepares}
+use Rattle.prepared.proofs.Clean.{TreeClean, tree-clean}
+use Rattle.entry_tree.specs.declared.Grown.the-variants.{Counted, Refused}
+use Rattle.entry_tree.specs.Answers.{grownOf}
+use Rattle.entry_tree.specs.Left.{Slices, recordSlices, TreeLeft}
+
+-- what is told later stands over what was told before
+told-on : {A : Type 0} (xs ys l : List A) → holding (xs ++ ys) (holding xs l) ≡ holding (xs ++ ys) l
+told-on {A} xs ys l = rw (length-append xs ys) (ap (λ (t : List A). (xs ++ ys) ++ t) (drop-append-add xs (drop (length xs) l) (length ys) ∙ drop-drop (length ys) (length xs) l))
+
+-- a number was given, or what stands is counted
+unprepared : (z sums count k : ℕ) → Unprepared k ≡ preparedOf sums (unless z count) → (k ≡ z) × (k ≡ 0 → ⊥)
+unprepared zero sums count k h = absurd (let e : _≡_ {A = ℕ} 0 1 = cc in omega arith)
+unprepared (suc z) sums count k h = let e : k ≡ suc z = cc in (e, λ w. omega arith)
+
+counted : (z sums count len found : ℕ) → Seeded len found ≡ preparedOf sums (unless z count) → (0 ≡ z) × (len ≡ sums) × (found ≡ count)
+counted zero sums count len found h = (refl, cc, cc)
+counted (suc z) sums count len found h = absurd (let e : _≡_ {A = ℕ} 0 1 = cc in omega arith)
+
+-- the call, with the slices lent; front is what stands in the first three once it is prepared
+module _ (x : Matrix) (s : Settings) (forbidden : List ℕ) (layers : List Float) (before : Slices) (front : RecordSlices) where
+  abbrev settings : asked.Settings
+  settings = settingsOf s forbidden layers
+
+  abbrev a : TreeAsked
+  a = treeAsked x settings (recordSlices before) (length (before .nodes)) (length (before .cuts))
+
+  abbrev q : Run
+  q = runOf x settings
+
+  -- what growing is handed
+  abbrev shared : Asked
+  shared = record { d = x .d; settings = s }
+
+  abbrev pub lentOf : Lent
+  lentOf = record { rows = front .rows; gains = front .gains; nodes = before .nodes; cuts = before .cuts }
+
+  -- the slices, with those of l
+  abbrev pub after : Lent → Slices
+  after l = record { sums = front .sums; rows = l .rows; gains = l .gains; nodes = l .nodes; cuts = l .cuts }
+
+  -- a refusal changes nothing
+  pub refused-told : (k : ℕ) → Prepares a (Unprepared k) (recordSlices before) front → TreeLeft x settings (Refused k) before (after lentOf)
+  unfolding treeCall
+  refused-told k said =
+      let (is, some) = unprepared (treeRefusal a) (sumsRoom x) (length (seedsOf a)) k (said .answer) in
+      record {
+        answer = ap grownOf (answer-refused is some (countsOf q));
+        sums = said .sums;
+        rows = said .rows ∙ sym (held-refused is some flatRows (seedsOf a) (before .rows) refl) ∙ held-refused is some flatRows (recordsOf q) (before .rows) refl;
+        gains = said .gains ∙ sym (held-refused is some gainsOf (seedsOf a) (before .gains) refl) ∙ held-refused is some gainsOf (recordsOf q) (before .gains) refl;
+        nodes = held-refused is some (map toNode) (nodes 0 (treeOf q)) (before .nodes) refl;
+        cuts = held-refused is some (λ l. l) (sheet (treeOf q)) (before .cuts) refl;
+      }
+
+  module _ (len count : ℕ) (said : Prepares a (Seeded len count) (recordSlices before) front) where
+    -- nothing is refused, and the seeds' records stand
+    told : (0 ≡ treeRefusal a) × (len ≡ sumsRoom x) × (count ≡ length (seedRecords q))
+    told = counted (treeRefusal a) (sumsRoom x) (length (seedsOf a)) len count (said .answer)
+
+    -- what is held where nothing is refused
+    held : {A B : Type 0} (form : List A → List B) (l : List A) (b : List B) {c : List B} → c ≡ holding (form (toldUnless (treeRefusal a) l)) b → c ≡ holding (form l) b
+    held {A} form l b h = rw (← told .0) at h
+
+    clean : TreeClean a
+    clean = tree-clean a (sym (told .0))
+
+    front-sums : front .sums ≡ holding (sumsOf x) (before .sums)
+    front-sums = held (λ l. l) (sumsOf x) (before .sums) (said .sums)
+
+    front-rows : front .rows ≡ holding (flatRows (seedRecords q)) (before .rows)
+    front-rows = held flatRows (seedRecords q) (before .rows) (said .rows)
+
+    front-gains : front .gains ≡ holding (gainsOf (seedRecords q)) (before .gains)
+    front-gains = held gainsOf (seedRecords q) (before .gains) (said .gains)
+
+    -- the sums of the run, and no more
+    part : take len (front .sums) ≡ sumsOf x
+    part = sums-part x (length (before .sums)) (clean .sums) (before .sums) (told .1) (front-sums ∙ sym (sums-are x (length (before .sums)) (clean .sums) (before .sums)))
+
+    pub part-long : length (take len (front .sums)) ≡ len
+    unfolding prefixSums
+    part-long = rw part (length-flat (x .cells) (x .d) _ ∙ omega (arith, told .1, clean .sums .total, clean .sums .shape .long))
+
+    pub sized : Sized shared (x .n) (length (take len (front .sums)))
+    sized = (clean .lengths .1, clean .sums .shape .rows .1, omega (arith, part-long, told .1))
+
+    few : length (seedRecords q) ≤ layersTotal layers
+    unfolding seedRecords
+    few = seeds-few (direct q) (x .n) layers
+
+    seeds-stand : seedRecords (runOver (take len (front .sums)) forbidden shared (x .n) (seeded (x .n) layers)) ≡ stored lentOf count
+    seeds-stand = rw (part, told .2, front-rows, front-gains) (sym (records-told (seedRecords q) _ _))
+
+    pub ready : length (front .rows) ≡ length (before .rows) → length (front .gains) ≡ length (before .gains) → Ready (take len (front .sums)) forbidden shared (x .n) count lentOf
+    ready same-rows same-gains = record {
+      least = clean .lengths .0;
+      nonempty = clean .sums .shape .rows .0;
+      seeds = seeded (x .n) layers;
+      seeded = seeds-stand;
+      room-rows = omega (arith, told .2, few, clean .records-fit, same-rows);
+      room-gains = omega (arith, told .2, few, clean .records-fit, same-gains);
+      room-nodes = omega (arith, clean .nodes-fit);
+      room-cuts = omega (arith, clean .cuts-fit);
+    }
+
+    pub grown-told : (l : Lent) (next : Counts) → Segmented (take len (front .sums)) forbidden shared (x .n) count lentOf l next → TreeLeft x settings (Counted next) before (after l)
+    unfolding treeCall recordsOf
+    grown-told l next segmented =
+        let h : Holds q lentOf l next = rw part at (segmented .by (seeded (x .n) layers) seeds-stand) in
+        let made = grown q .made in
+        record {
+          answer = ap Counted (h .counts) ∙ ap grownOf (answer-given (told .0) refl (countsOf q));
+          sums = said .sums;
+          rows = held-given (told .0) refl flatRows (seedRecords q ++ made) (before .rows) (h .rows ∙ rw (front-rows, rows-append (seedRecords q) made) (told-on (flatRows (seedRecords q)) (flatRows made) (before .rows)));
+          gains = held-given (told .0) refl gainsOf (seedRecords q ++ made) (before .gains) (h .gains ∙ rw (front-gains, gains-append (seedRecords q) made) (told-on (gainsOf (seedRecords q)) (gainsOf made) (before .gains)));
+          nodes = held-given (told .0) refl (map toNode) (nodes 0 (treeOf q)) (before .nodes) (h .nodes);
+          cuts = held-given (told .0) refl (λ c. c) (sheet (treeOf q)) (before .cuts) (h .cuts);
+        }

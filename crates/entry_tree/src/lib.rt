@@ -1,0 +1,98 @@
+// The tree of a run: its node list, its records and its sheet.
+use binary_segmentation::node::Node;
+use binary_segmentation::tree;
+use binary_segmentation::tree::Asked;
+use binary_segmentation::tree::Counts;
+use control::Settings;
+use prepared::Prepared;
+use rows::Position;
+ghost use Rattle.control.specs.Settings.{settingsOf};
+ghost use Rattle.entry_tree.specs.Left.{TreeLeft, PointsLeft};
+
+// How many nodes, records and cuts were written, or the refusal's number.
+pub enum Grown {
+    Counted(Counts),
+    Refused(u32),
+}
+
+// The tree of the run: its nodes in preorder into `nodes`, its cuts from left to right into `cuts`; start, stop and best split of each record into `rows`,
+// its gain into `gains`, those of the seeded segments first. The prefix sums are left in `sums`.
+pub fn binary_segmentation(
+    cells: &[f64],
+    n: usize,
+    d: usize,
+    settings: Settings,
+    forbidden: &[usize],
+    layers: &[f64],
+    sums: &mut [f64],
+    rows: &mut [usize],
+    gains: &mut [f64],
+    nodes: &mut [Node],
+    cuts: &mut [usize],
+) -> Grown
+    ensures { λ r. ⌜ TreeLeft (record { cells = now (cells .entry); n = n; d = d }) (settingsOf settings (now (forbidden .entry)) (now (layers .entry))) r (record { sums = now (sums .entry); rows = now (rows .entry); gains = now (gains .entry); nodes = now (nodes .entry); cuts = now (cuts .entry) }) (record { sums = now (sums .exit); rows = now (rows .exit); gains = now (gains .exit); nodes = now (nodes .exit); cuts = now (cuts .exit) }) ⌝ }
+{
+    match prepared::prepare(
+        cells,
+        n,
+        d,
+        settings,
+        forbidden,
+        layers,
+        sums,
+        rows,
+        gains,
+        nodes.len(),
+        cuts.len(),
+    ) {
+        Prepared::Refused(no) => Grown::Refused(no),
+        Prepared::Seeded(len, count) => {
+            let asked = Asked { d, settings };
+            Grown::Counted(tree::binary_segmentation(
+                &sums[..len],
+                forbidden,
+                asked,
+                n,
+                rows,
+                gains,
+                nodes,
+                cuts,
+                count,
+            ))
+        }
+    }
+}
+
+// The most nodes that any run has: those of 4,096 rows at m = 1.
+const MOST_NODES: usize = 8189;
+
+// The cuts, for a caller with no use for the nodes: their room is local.
+pub fn split_points(
+    cells: &[f64],
+    n: usize,
+    d: usize,
+    settings: Settings,
+    forbidden: &[usize],
+    layers: &[f64],
+    sums: &mut [f64],
+    rows: &mut [usize],
+    gains: &mut [f64],
+    cuts: &mut [usize],
+) -> Grown
+    ensures { λ r. ⌜ PointsLeft (record { cells = now (cells .entry); n = n; d = d }) (settingsOf settings (now (forbidden .entry)) (now (layers .entry))) r (record { sums = now (sums .entry); rows = now (rows .entry); gains = now (gains .entry); cuts = now (cuts .entry) }) (record { sums = now (sums .exit); rows = now (rows .exit); gains = now (gains .exit); cuts = now (cuts .exit) }) ⌝ }
+{
+    let mut nodes = [Node::without_choice(Position(0), Position(0)); MOST_NODES];
+    binary_segmentation(
+        cells,
+        n,
+        d,
+        settings,
+        forbidden,
+        layers,
+        sums,
+        rows,
+        gains,
+        &mut nodes,
+        cuts,
+    )
+}

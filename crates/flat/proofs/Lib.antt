@@ -1,2 +1,0 @@
--- Proofs of crate `flat`.
-pub mod Deals

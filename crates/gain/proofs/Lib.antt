@@ -1,2 +1,0 @@
--- Laws that the proofs of the gains share.
-pub mod Cumsum

@@ -1,3 +1,0 @@
--- What contracts inside the crate cite, beside document 01's definitions.
-pub mod Lent
-pub mod Marks

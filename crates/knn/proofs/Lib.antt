@@ -1,0 +1,3 @@
+-- Laws of distances and counts.
+pub mod Distances
+pub mod Counts

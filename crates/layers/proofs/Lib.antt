@@ -1,0 +1,2 @@
+-- Laws of layers.
+pub mod Layered

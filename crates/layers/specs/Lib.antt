@@ -1,0 +1,2 @@
+-- A layer by value.
+pub mod Layer

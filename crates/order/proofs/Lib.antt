@@ -1,0 +1,5 @@
+-- Laws of one row's order.
+pub mod Parts
+pub mod Ordered
+pub mod Merging
+pub mod Halving

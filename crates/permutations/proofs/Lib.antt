@@ -1,0 +1,4 @@
+-- Laws on permutations and marks.
+pub mod Times
+pub mod Marked
+pub mod Passes

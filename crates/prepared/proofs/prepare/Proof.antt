@@ -1,0 +1,78 @@
+-- `prepare` meets its contract: a number, and nothing is told; or the records of the seeded segments, with the sums left.
+use mathlib.Core.Path.{_≡_, refl, sym, _∙_, ap}
+use Prim.Native.Nat.{ℕ}
+use denote.Ref.{now}
+use lib.ListN.{length}
+use Rattle.scope.specs.Tree.{seedRecords}
+use Rattle.scope.specs.Calls.{sumsOf, sumsRoom, TreeAsked, treeRefusal}
+use Rattle.control.specs.Settings.{settingsOf}
+use Rattle.control.proofs.Follows.{answer-refused, held-refused, answer-given, held-given}
+use Rattle.stored.specs.Flat.{flatRows, gainsOf}
+use Rattle.prepared.specs.Answers.{treeAsked, seedsOf, preparedOf}
+use Rattle.prepared.specs.declared.Prepared.the-variants.{Seeded}
+use Rattle.prepared.proofs.Clean.{TreeClean, tree-clean, tree-seeds}
+use borrow.Author.Needs.{needs}
+use Rattle.prepared.proofs.prepare.Statement.{statement}
+use Rattle.prepared.proofs.prepare.Tie as tie
+
+abbrev asked : tie.Start → TreeAsked
+asked s =
+    let a = s .args in
+    treeAsked (record { cells = now (a .cells); n = a .n; d = a .d }) (settingsOf (a .settings) (now (a .forbidden)) (now (a .layers))) (record { sums = now (a .sums); rows = now (a .rows); gains = now (a .gains) }) (a .nodes) (a .cuts)
+
+-- the number is that of what is asked
+number : (c : tie.After-tree-refusal) → c .tree-refusal .result ≡ treeRefusal (asked (c .before .before .before .before .before .before .before .before))
+number c = rw (← c .before .record-room .ensures) (c .tree-refusal .ensures)
+
+none-refused : (c : tie.Else1) → treeRefusal (asked (c .before .before .before .before .before .before .before .before .before)) ≡ 0
+none-refused c = sym (number (c .before)) ∙ c .if1 .left
+
+returns : tie.Need-returns
+returns c =
+    let s = c .before .before .before .before .before .before .before .before .before in
+    let a = asked s in
+    let is = number (c .before) in
+    record {
+      answer = ap (preparedOf (sumsRoom (a .matrix))) (answer-refused is (c .if1 .taken) (length (seedsOf a)));
+      sums = held-refused is (c .if1 .taken) (λ l. l) (sumsOf (a .matrix)) (now (s .args .sums)) refl;
+      rows = held-refused is (c .if1 .taken) flatRows (seedsOf a) (now (s .args .rows)) refl;
+      gains = held-refused is (c .if1 .taken) gainsOf (seedsOf a) (now (s .args .gains)) refl;
+    }
+
+store-seeded-requires : tie.Need-store-seeded-requires
+store-seeded-requires c κs = tree-seeds (asked (c .before .before .before .before .before .before .before .before .before .before .before .before .before)) (none-refused (c .before .before .before .before))
+
+sums-len-requires : tie.Need-sums-len-requires
+sums-len-requires c κs = let f = tree-clean (asked (c .before .before .before .before .before .before .before .before .before .before .before .before .before .before .before .before .before .before .before .before)) (none-refused (c .before .before .before .before .before .before .before .before .before .before .before)) in (f .sums .shape .rows .1, f .sums .shape .columns .1)
+
+returns-2 : tie.Need-returns-2
+unfolding seedRecords
+returns-2 c =
+    let s = c .before .before .before .before .before .before .before .before .before .before .before .before .before .before .before .before .before .before .before .before .before in
+    let a = asked s in
+    let is = number (c .before .before .before .before .before .before .before .before .before .before .before .before .before) in
+    let none = c .before .before .before .before .before .before .before .before .before .before .before .before .if1 .left in
+    let told = c .before .before .before .before .before .before .before .store-seeded .ensures in
+    record {
+      answer =
+          ap (λ (k : ℕ). Seeded k (c .before .before .before .before .before .before .before .store-seeded .result)) (c .sums-len .ensures)
+          ∙ ap (Seeded (sumsRoom (a .matrix))) (told .count)
+          ∙ ap (preparedOf (sumsRoom (a .matrix))) (answer-given is none (length (seedsOf a)));
+      sums = held-given is none (λ l. l) (sumsOf (a .matrix)) (now (s .args .sums)) (told .sums);
+      rows = held-given is none flatRows (seedsOf a) (now (s .args .rows)) (told .rows);
+      gains = held-given is none gainsOf (seedsOf a) (now (s .args .gains)) (told .gains);
+    }
+
+pub prepare-spec : {M : Type 1} → statement M
+prepare-spec =
+    tie.close
+    (tie.spec
+    (λ c κs. search needs)
+    (λ c κs. search needs)
+    returns
+    store-seeded-requires
+    sums-len-requires
+    (λ c. search needs)
+    (λ c. search needs)
+    (λ c. search needs)
+    returns-2)

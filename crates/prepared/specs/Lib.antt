@@ -1,0 +1,2 @@
+-- What a call for the tree is asked, and what stands once it is prepared.
+pub mod Answers

@@ -1,0 +1,108 @@
+// A call for the tree, up to its growing: judged, and where nothing is refused the prefix sums and the seeded segments' records stored.
+// Inside the library.
+use control::Settings;
+ghost use mathlib.Core.Path.{_≡_};
+ghost use Rattle.scope.specs.Calls.{treeRefusal};
+ghost use Rattle.control.specs.Settings.{settingsOf};
+ghost use Rattle.prepared.specs.Answers.{treeAsked, Prepares};
+
+// The number that applies to a call for the tree, or 0: B nodes and (B-1)/2 cuts at most, and a record for each node beside those of the
+// seeded segments.
+pub fn tree_refusal(
+    cells: &[f64],
+    n: usize,
+    d: usize,
+    settings: Settings,
+    forbidden: &[usize],
+    layers: &[f64],
+    sums: usize,
+    records: usize,
+    nodes: usize,
+    cuts: usize,
+) -> u32
+    ensures { λ r. ⌜ r ≡ treeRefusal (record { matrix = record { cells = now (cells .entry); n = n; d = d }; settings = settingsOf settings (now (forbidden .entry)) (now (layers .entry)); room = record { sums = sums; records = records; nodes = nodes; cuts = cuts } }) ⌝ }
+{
+    let shortest = settings.shortest;
+    let sizes = control::sizes_refusal(cells, n, d, shortest);
+    if sizes != 0 {
+        return sizes;
+    }
+    if control::is_nan(settings.threshold) {
+        return 3;
+    }
+    let values = control::values_refusal(cells, forbidden);
+    if values != 0 {
+        return values;
+    }
+    if layers::wrong_layers(layers) {
+        return 6;
+    }
+    if sums < control::sums_len(n, d) {
+        return 7;
+    }
+    let most = control::most_nodes(n, shortest);
+    if records < layers::layers_total(layers) + most {
+        return 7;
+    }
+    if nodes < most {
+        return 7;
+    }
+    if cuts < (most - 1) / 2 {
+        return 7;
+    }
+    0
+}
+
+// How many prefix sums there are, and how many records the seeded segments left; or the refusal's number.
+pub enum Prepared {
+    Seeded(usize, usize),
+    Refused(u32),
+}
+
+// Judges every refusal of a call for the tree; then the prefix sums and the seeded segments' records, which the tree is grown behind.
+pub fn prepare(
+    cells: &[f64],
+    n: usize,
+    d: usize,
+    settings: Settings,
+    forbidden: &[usize],
+    layers: &[f64],
+    sums: &mut [f64],
+    rows: &mut [usize],
+    gains: &mut [f64],
+    nodes: usize,
+    cuts: usize,
+) -> Prepared
+    ensures { λ r. ⌜ Prepares (treeAsked (record { cells = now (cells .entry); n = n; d = d }) (settingsOf settings (now (forbidden .entry)) (now (layers .entry))) (record { sums = now (sums .entry); rows = now (rows .entry); gains = now (gains .entry) }) nodes cuts) r (record { sums = now (sums .entry); rows = now (rows .entry); gains = now (gains .entry) }) (record { sums = now (sums .exit); rows = now (rows .exit); gains = now (gains .exit) }) ⌝ }
+{
+    let room = control::record_room(rows.len(), gains.len());
+    let no = tree_refusal(
+        cells,
+        n,
+        d,
+        settings,
+        forbidden,
+        layers,
+        sums.len(),
+        room,
+        nodes,
+        cuts,
+    );
+    if no != 0 {
+        return Prepared::Refused(no);
+    }
+    let shortest = settings.shortest;
+    let records = segmentation::store_seeded(
+        cells,
+        n,
+        d,
+        shortest,
+        forbidden,
+        layers,
+        sums,
+        rows,
+        gains,
+    );
+    let len = control::sums_len(n, d);
+    Prepared::Seeded(len, records)
+}

@@ -1,2 +1,0 @@
--- Laws that several functions' proofs cite.
-pub mod Floats

@@ -1,0 +1,3 @@
+-- Laws of records in lent memory, and of the choice among them.
+pub mod Flat
+pub mod Chosen

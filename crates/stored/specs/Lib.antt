@@ -1,0 +1,2 @@
+-- Records in lent memory.
+pub mod Flat

@@ -1,0 +1,2 @@
+-- How an answer reaches a host.
+pub mod Told

@@ -1,0 +1,73 @@
+-- How an answer reaches a host: a number, and what is stored through a lent place.
+use mathlib.Core.Path.{_≡_}
+use mathlib.Core.Bool.{Bool}
+use mathlib.Core.List.{List}
+use Prim.Native.Nat.{ℕ}
+use lib.Ieee.{Float}
+use lib.ListN.{length, getD, set}
+use Rattle.scope.specs.Refusals.{Answer, refused, given}
+use Rattle.scope.specs.Calls.{Split, Tested, Counts}
+use Rattle.entry_tree.specs.declared.Grown.{Grown}
+use Rattle.entry_tree.specs.declared.Grown.the-variants as grown
+
+-- 0, or the number of the refusal
+abbrev pub numberOf : {A : Type 0} → Answer A → ℕ
+numberOf (refused k) = k
+numberOf (given a) = 0
+
+-- a lent place holds the answer, or what it held
+abbrev pub valueOr : {A : Type 0} → Answer A → A → A
+valueOr (refused k) before = before
+valueOr (given a) before = a
+
+abbrev pub splitOr : Answer Split → ℕ → ℕ
+splitOr (refused k) before = before
+splitOr (given s) before = s .split
+
+abbrev pub gainOr : Answer Split → Float → Float
+gainOr (refused k) before = before
+gainOr (given s) before = s .gain
+
+-- the entry at a place of an answer that is a list, and its length
+abbrev pub entryOr : {A : Type 0} → Answer (List A) → ℕ → A → A
+entryOr (refused k) i before = before
+entryOr (given l) i before = getD l i before
+
+abbrev pub lengthOr : {A : Type 0} → Answer (List A) → ℕ → ℕ
+lengthOr (refused k) before = before
+lengthOr (given l) before = length l
+
+-- the parts of a test's result
+abbrev pub counterOr : Answer Tested → ℕ → ℕ
+counterOr (refused k) before = before
+counterOr (given t) before = t .counted
+
+abbrev pub pOr : Answer Tested → Float → Float
+pOr (refused k) before = before
+pOr (given t) before = t .p
+
+abbrev pub significantOr : Answer Tested → Bool → Bool
+significantOr (refused k) before = before
+significantOr (given t) before = t .significant
+
+-- the tree's three counts in a lent slice, as far as it has room
+abbrev pub threeIn : ℕ → ℕ → ℕ → List ℕ → List ℕ
+threeIn nodes records cuts before = set (set (set before 0 nodes) 1 records) 2 cuts
+
+abbrev pub countsOr : Answer Counts → List ℕ → List ℕ
+countsOr (refused k) before = before
+countsOr (given c) before = threeIn (c .nodes) (c .records) (c .cuts) before
+
+-- the same, of the enum that the entry point answers with
+abbrev pub grownNumber : Grown → ℕ
+grownNumber (grown.Refused k) = k
+grownNumber (grown.Counted c) = 0
+
+abbrev pub grownCounts : Grown → List ℕ → List ℕ
+grownCounts (grown.Refused k) before = before
+grownCounts (grown.Counted c) before = threeIn (c .nodes) (c .records) (c .cuts) before
+
+-- what `tell` answers, and stores
+pub record GrownTold (g : Grown) (r : ℕ) (counts₀ counts₁ : List ℕ) : Type 0 where
+  pub number : r ≡ grownNumber g
+  pub counts : counts₁ ≡ grownCounts g counts₀

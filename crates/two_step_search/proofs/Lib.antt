@@ -1,0 +1,2 @@
+-- Laws on guesses.
+pub mod Guessing

@@ -1,0 +1,2 @@
+-- Guesses by value.
+pub mod Guessed
