@@ -55,7 +55,7 @@ pub fn at_limit(random: &mut Random, kind: &'static str) -> Draft {
 /// 58 one that is longer.
 fn wide(random: &mut Random, draft: &mut Draft) {
     let sizes = [(4_096, 1), (4_095, 7), (1_024, 64), (4_096, 57), (4_096, 58)];
-    let (n, d) = sizes[random.weighted(&[8, 8, 4, 1, 1])];
+    let (n, d) = sizes[random.weighted(&[24, 6, 3, 1, 1])];
     matrix(random, draft, n, d);
     (draft.start, draft.stop, draft.m) = (0, n, random.of(&[1, 7, n / 2 - 1]));
     draft.split = random.between(0, n);
