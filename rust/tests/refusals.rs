@@ -2,6 +2,7 @@
 use haspgarnet_changeforest::lent::{self, TreeRoom};
 use haspgarnet_changeforest::{owned, Curves, Matrix, Node, Permutations, Refusal, Settings};
 use std::fmt::Debug;
+use std::ops::Range;
 
 fn number<T: Debug>(answer: Result<T, Refusal>) -> u32 {
     answer.unwrap_err().number()
@@ -99,7 +100,7 @@ fn segments() {
     let readings = column(&[0.0; 4]);
     assert_eq!(number(owned::split_candidates(10, 0..11, &with_m(1))), 8);
     assert_eq!(number(owned::split_candidates(10, 0..HUGE, &with_m(1))), 8);
-    assert_eq!(number(owned::split_candidates(10, HUGE..0, &with_m(1))), 8);
+    assert_eq!(number(owned::split_candidates(10, Range { start: HUGE, end: 0 }, &with_m(1))), 8);
     assert_eq!(number(owned::gain(readings, 2..3, 1)), 8);
     assert_eq!(number(owned::predict(readings, 2..2, 2)), 8);
     assert_eq!(number(owned::predict(readings, 0..HUGE, 2)), 8);
