@@ -38,8 +38,10 @@ impl Outcome {
 }
 
 /// Whether the call with room of its own answers what the call over lent room does. It always has
-/// room enough: where more was asked than was lent there is nothing to compare.
+/// room enough: where more was asked than was lent it answers, or finds a refusal that comes later.
 pub fn agree<T: PartialEq>(lent: Result<T, Refusal>, owned: Result<T, Refusal>) -> bool {
-    let no_room = |why: &Refusal| why.number() == NO_ROOM;
-    lent.as_ref().is_err_and(no_room) || lent == owned
+    match lent {
+        Err(why) if why.number() == NO_ROOM => owned.err().is_none_or(|why| why.number() > NO_ROOM),
+        _ => lent == owned,
+    }
 }
