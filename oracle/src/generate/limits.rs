@@ -67,7 +67,7 @@ fn tree(random: &mut Random, draft: &mut Draft) {
     matrix(random, draft, 4_096, 1);
     (draft.m, draft.forbidden, draft.layers) = (random.of(&[1, 7, 2_047]), None, vec![]);
     match random.below(8) {
-        0 => draft.cells = values::cells(random, 4_096, 1),
+        0 => (),
         1 | 2 => (draft.cells, draft.value) = (vec![0.0; 4_096], -1.0),
         3 | 4 => {
             draft.m = random.of(&[300, 700]);

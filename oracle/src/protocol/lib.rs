@@ -17,10 +17,12 @@ pub use fields::{value, Fields};
 pub use lengths::{Rel, F32};
 pub use mean::{Cand, Forbidden, Gain, Matrix, Search, Segment};
 pub use neighbours::{Knn, Order};
-pub use room::{Short, Slice};
+pub use room::Slice;
 pub use text::{bits, same};
 pub use tree::{Grown, Node, Record, Tree};
 pub use two_step::{Guesses, Pick};
+
+use room::Short;
 
 /// A kind of case.
 pub trait Kind: Sized {
@@ -77,9 +79,9 @@ const LONGEST: usize = 4_000_000;
 /// A line that is a case.
 pub struct Line {
     pub case: Case,
-    pub slices: Vec<Slice>,
     /// Whether a list passes its capacity.
     pub too_large: bool,
+    slices: Vec<Slice>,
     short: Option<Short>,
 }
 
@@ -98,7 +100,7 @@ impl Line {
         let slices = case.lends();
         let named = short.is_none_or(|short| (1..=slices.len()).contains(&short.slice));
         let too_large = fields.passed();
-        (fields.at_end() && named).then_some(Line { case, slices, too_large, short })
+        (fields.at_end() && named).then_some(Line { case, too_large, slices, short })
     }
 
     /// How many entries of slice number `number`, counted from 1, are lent.

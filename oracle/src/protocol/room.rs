@@ -6,9 +6,9 @@ use crate::Matrix;
 
 /// `short I K`.
 #[derive(Clone, Copy)]
-pub struct Short {
-    pub(crate) slice: usize,
-    pub(crate) less: usize,
+pub(crate) struct Short {
+    pub slice: usize,
+    pub less: usize,
 }
 
 /// A slice that a case lends.
