@@ -1,5 +1,5 @@
 //! The marked cases of document 01, through both forms of the functions.
-use haspgarnet_changeforest::{lent, owned, Curves, Matrix, Node, Permutations, Record, Settings, Split};
+use haspgarnet_changeforest::{lent, owned, Curves, Matrix, Node, Permutations, Record, Refusal, Settings, Split};
 
 fn column(cells: &[f64]) -> Matrix<'_> {
     Matrix { cells, rows: cells.len(), columns: 1 }
@@ -157,4 +157,18 @@ fn to_the_others_an_empty_list_is_none() {
     assert_eq!(owned::tree(readings, &listed), owned::tree(readings, &unlisted));
     let pick = |settings| lent::pick(readings.cells, 5, 0..5, 1, settings);
     assert_eq!(pick(&listed), pick(&unlisted));
+}
+
+/// The code of docs/EMBEDDING.md, over the readings of embedding/example.c.
+#[test]
+fn the_page() -> Result<(), Refusal> {
+    let cells = [
+        3.0, 10.0, 4.0, 10.0, 3.0, 11.0, 4.0, 10.0, 3.0, 10.0, 9.0, 10.0, //
+        8.0, 10.0, 9.0, 11.0, 8.0, 10.0, 9.0, 15.0, 8.0, 15.0, 9.0, 14.0,
+    ];
+    let readings = Matrix { cells: &cells, rows: 12, columns: 2 };
+    let settings = Settings { m: 2, threshold: 10.0, forbidden: Some(&[2, 3]), layers: &[0.5], ..Settings::default() };
+    let sheet = owned::tree(readings, &settings)?.cuts;
+    assert_eq!(sheet, [5, 9]);
+    Ok(())
 }
