@@ -2,15 +2,12 @@
 //! or reads otherwise. No rule is asked here. One line for each, `panics` where it does.
 
 #[allow(dead_code)]
-#[path = "oracle/case.rs"]
-mod case;
-#[allow(dead_code)]
 #[path = "oracle/original.rs"]
 mod original;
 
-use case::{Matrix, Perm, Segment};
 use changeforest::optimizer::OptimizerResult;
 use changeforest::{Control, ModelSelectionResult, Optimizer, Segmentation, SegmentationType};
+use protocol::{Matrix, Perm, Segment};
 use std::cell::RefCell;
 use std::fmt::Debug;
 use std::panic::{catch_unwind, AssertUnwindSafe};
@@ -26,10 +23,10 @@ fn probe<T: Debug>(name: &str, answer: impl FnOnce() -> T) {
 }
 
 fn column(cells: &[f64]) -> Matrix {
-    Matrix { n: cells.len() as u64, d: 1, cells: cells.into() }
+    Matrix { n: cells.len(), d: 1, cells: cells.into() }
 }
 
-fn segment(n: u64, m: u64, start: u64, stop: u64) -> Segment {
+fn segment(n: usize, m: usize, start: usize, stop: usize) -> Segment {
     Segment { n, m, forbidden: None, start, stop }
 }
 
@@ -51,7 +48,7 @@ fn sizes_and_lengths() {
     });
 }
 
-fn nodes(cells: &[f64], d: u64, threshold: f64) -> usize {
+fn nodes(cells: &[f64], d: usize, threshold: f64) -> usize {
     let matrix = Matrix { d, ..column(cells) };
     original::tree(&matrix, 1, threshold, &None, &[]).nodes.len()
 }
@@ -110,21 +107,21 @@ fn picks() {
 }
 
 /// One permutation in place, alpha 0.5, base 0 for every curve.
-fn permuted(l: usize, m: u64, deltas: &[Vec<f64>], max: f64) -> Perm {
+fn permuted(l: usize, m: usize, deltas: &[Vec<f64>], max: f64) -> Perm {
     Perm {
         m,
         alpha: 0.5,
         p: 1,
         max,
-        k: deltas.len() as u64,
+        k: deltas.len(),
         bases: vec![0.0; deltas.len()],
         deltas: deltas.into(),
-        perms: (0..l as u64).collect(),
+        perms: (0..l).collect(),
     }
 }
 
 fn permutations() {
-    let counter = |l: usize, m: u64, deltas: &[Vec<f64>], max: f64| {
+    let counter = |l: usize, m: usize, deltas: &[Vec<f64>], max: f64| {
         original::permuted(&permuted(l, m, deltas, max), l).0
     };
     let two = [vec![1.0, 0.0]];

@@ -1,5 +1,8 @@
-//! The entry points that need room, with room of their own: refusal 7 is never given.
-use crate::{lent, Node, Record, Refusal, Split, Tree};
+//! The entry points that need room, with room of their own: refusal 7 is never given. The others are those of [`lent`].
+use std::ops::Range;
+
+use crate::lent::{self, PredictRoom, SegmentsRoom, TreeRoom};
+use crate::{Matrix, Node, Record, Refusal, Settings, Split, Tree};
 
 /// The sizes of document 01. Beyond them a call is refused by 1 or 6, whatever its room: none is allocated.
 const MOST_ROWS: usize = 4096;
@@ -7,19 +10,19 @@ const MOST_COLUMNS: usize = 64;
 const MOST_NEIGHBOURS: usize = 1024;
 const MOST_LAYERS: usize = 64;
 
-fn sums_room(n: usize, d: usize) -> Vec<f64> {
-    if n > MOST_ROWS || d > MOST_COLUMNS {
+fn sums_room(matrix: Matrix) -> Vec<f64> {
+    if matrix.rows > MOST_ROWS || matrix.columns > MOST_COLUMNS {
         return Vec::new();
     }
-    vec![0.0; (n + 1) * d]
+    vec![0.0; (matrix.rows + 1) * matrix.columns]
 }
 
-/// The ends of a segment. One that no run can have is refused by 8 whatever its ends: `[1, 0)` stands for it, which needs no room.
-fn ends(start: usize, stop: usize) -> (usize, usize) {
-    if stop > MOST_ROWS {
-        return (1, 0);
+/// The segment. One that no run can have is refused by 8 whatever its ends: `[1, 0)` stands for it, which needs no room.
+fn of_a_run(segment: Range<usize>) -> Range<usize> {
+    if segment.end > MOST_ROWS {
+        return Range { start: 1, end: 0 };
     }
-    (start, stop)
+    segment
 }
 
 /// T, the segments of all layers.
@@ -31,37 +34,23 @@ fn segments(layers: &[f64]) -> usize {
     layers.iter().map(|v| 2 * ((1.0 / v) as f32).ceil() as usize - 1).sum()
 }
 
-/// The candidates of `[start, stop)`, ascending.
-pub fn split_candidates(
-    n: usize,
-    m: usize,
-    forbidden: &[usize],
-    start: usize,
-    stop: usize,
-) -> Result<Vec<usize>, Refusal> {
-    let (start, stop) = ends(start, stop);
-    let mut rows = vec![0; stop.saturating_sub(start).saturating_sub(m).saturating_sub(m)];
-    let count = lent::split_candidates(n, m, forbidden, start, stop, &mut rows)?;
-    rows.truncate(count);
-    Ok(rows)
+/// The candidates of a segment of a run of `rows` rows, ascending. Reads m and forbidden.
+pub fn split_candidates(rows: usize, segment: Range<usize>, settings: &Settings) -> Result<Vec<usize>, Refusal> {
+    let (segment, m) = (of_a_run(segment), settings.m);
+    let mut candidates = vec![0; segment.len().saturating_sub(m).saturating_sub(m)];
+    let count = lent::split_candidates(rows, segment, settings, &mut candidates)?;
+    candidates.truncate(count);
+    Ok(candidates)
 }
 
-/// The gain of cutting `[start, stop)` at `split`.
-pub fn gain(cells: &[f64], n: usize, d: usize, start: usize, stop: usize, split: usize) -> Result<f64, Refusal> {
-    lent::gain(cells, n, d, start, stop, split, &mut sums_room(n, d))
+/// The gain of cutting the segment at `split`.
+pub fn gain(matrix: Matrix, segment: Range<usize>, split: usize) -> Result<f64, Refusal> {
+    lent::gain(matrix, segment, split, &mut sums_room(matrix))
 }
 
-/// The best split of `[start, stop)` and its gain.
-pub fn find_best_split(
-    cells: &[f64],
-    n: usize,
-    d: usize,
-    m: usize,
-    forbidden: &[usize],
-    start: usize,
-    stop: usize,
-) -> Result<Split, Refusal> {
-    lent::find_best_split(cells, n, d, m, forbidden, start, stop, &mut sums_room(n, d))
+/// The best split of the segment and its gain. Reads m and forbidden.
+pub fn find_best_split(matrix: Matrix, segment: Range<usize>, settings: &Settings) -> Result<Split, Refusal> {
+    lent::find_best_split(matrix, segment, settings, &mut sums_room(matrix))
 }
 
 /// Three entries of `rows` and one of `gains` for each record.
@@ -73,80 +62,57 @@ fn records(rows: &[usize], gains: &[f64], count: usize) -> Vec<Record> {
         .collect()
 }
 
-/// The records of the seeded segments of all layers.
-pub fn seeded_segments(
-    cells: &[f64],
-    n: usize,
-    d: usize,
-    m: usize,
-    forbidden: &[usize],
-    layers: &[f64],
-) -> Result<Vec<Record>, Refusal> {
-    let most = segments(layers);
-    let (mut rows, mut gains) = (vec![0; 3 * most], vec![0.0; most]);
-    let mut sums = sums_room(n, d);
-    let count = lent::seeded_segments(cells, n, d, m, forbidden, layers, &mut sums, &mut rows, &mut gains)?;
+/// The records of the seeded segments of all layers. Reads m, forbidden and layers.
+pub fn seeded_segments(matrix: Matrix, settings: &Settings) -> Result<Vec<Record>, Refusal> {
+    let room = segments(settings.layers);
+    let (mut sums, mut rows, mut gains) = (sums_room(matrix), vec![0; 3 * room], vec![0.0; room]);
+    let room = SegmentsRoom { sums: &mut sums, rows: &mut rows, gains: &mut gains };
+    let count = lent::seeded_segments(matrix, settings, room)?;
     Ok(records(&rows, &gains, count))
 }
 
 /// B, the most nodes that a tree can have.
-fn most_nodes(n: usize, m: usize) -> usize {
-    if n == 0 || n > MOST_ROWS || m == 0 {
+fn most_nodes(rows: usize, m: usize) -> usize {
+    if rows == 0 || rows > MOST_ROWS || m == 0 {
         return 1;
     }
-    (2 * ((n - 1) / m)).saturating_sub(1).max(1)
+    (2 * ((rows - 1) / m)).saturating_sub(1).max(1)
 }
 
-/// The tree of the run.
-pub fn tree(
-    cells: &[f64],
-    n: usize,
-    d: usize,
-    m: usize,
-    threshold: f64,
-    forbidden: &[usize],
-    layers: &[f64],
-) -> Result<Tree, Refusal> {
-    let most = most_nodes(n, m);
-    let room = segments(layers) + most;
-    let (mut rows, mut gains) = (vec![0; 3 * room], vec![0.0; room]);
+/// The tree of the run. Reads m, threshold, forbidden and layers.
+pub fn tree(matrix: Matrix, settings: &Settings) -> Result<Tree, Refusal> {
+    let most = most_nodes(matrix.rows, settings.m);
+    let room = segments(settings.layers) + most;
+    let (mut sums, mut rows, mut gains) = (sums_room(matrix), vec![0; 3 * room], vec![0.0; room]);
     let (mut nodes, mut cuts) = (vec![Node::default(); most], vec![0; (most - 1) / 2]);
-    let mut sums = sums_room(n, d);
-    let counts = lent::tree(
-        cells, n, d, m, threshold, forbidden, layers, &mut sums, &mut rows, &mut gains, &mut nodes, &mut cuts,
-    )?;
+    let room = TreeRoom { sums: &mut sums, rows: &mut rows, gains: &mut gains, nodes: &mut nodes, cuts: &mut cuts };
+    let counts = lent::tree(matrix, settings, room)?;
     nodes.truncate(counts.nodes);
     cuts.truncate(counts.cuts);
     Ok(Tree { nodes, cuts, records: records(&rows, &gains, counts.records) })
 }
 
-fn ordering_room(n: usize) -> (Vec<u32>, Vec<f64>) {
-    if n > MOST_NEIGHBOURS {
+fn ordering_room(rows: usize) -> (Vec<u32>, Vec<f64>) {
+    if rows > MOST_NEIGHBOURS {
         return (Vec::new(), Vec::new());
     }
-    (vec![0; n * n], vec![0.0; n])
+    (vec![0; rows * rows], vec![0.0; rows])
 }
 
 /// Each row's order of all rows, row after row.
-pub fn ordering(cells: &[f64], n: usize, d: usize) -> Result<Vec<u32>, Refusal> {
-    let (mut ordering, mut distances) = ordering_room(n);
-    lent::ordering(cells, n, d, &mut ordering, &mut distances)?;
+pub fn ordering(matrix: Matrix) -> Result<Vec<u32>, Refusal> {
+    let (mut ordering, mut distances) = ordering_room(matrix.rows);
+    lent::ordering(matrix, &mut ordering, &mut distances)?;
     Ok(ordering)
 }
 
-/// For each row of `[start, stop)` the share of its neighbours there at or past `split`.
-pub fn predict(
-    cells: &[f64],
-    n: usize,
-    d: usize,
-    start: usize,
-    stop: usize,
-    split: usize,
-) -> Result<Vec<f64>, Refusal> {
-    let (start, stop) = ends(start, stop);
-    let (mut ordering, mut distances) = ordering_room(n);
-    let mut predictions = vec![0.0; stop.saturating_sub(start)];
-    lent::predict(cells, n, d, start, stop, split, &mut ordering, &mut distances, &mut predictions)?;
+/// For each row of the segment the share of its neighbours there at or past `split`.
+pub fn predict(matrix: Matrix, segment: Range<usize>, split: usize) -> Result<Vec<f64>, Refusal> {
+    let segment = of_a_run(segment);
+    let (mut ordering, mut distances) = ordering_room(matrix.rows);
+    let mut predictions = vec![0.0; segment.len()];
+    let room = PredictRoom { ordering: &mut ordering, distances: &mut distances, predictions: &mut predictions };
+    lent::predict(matrix, segment, split, room)?;
     Ok(predictions)
 }
 

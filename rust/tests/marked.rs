@@ -1,101 +1,127 @@
 //! The marked cases of document 01, through both forms of the functions.
-use haspgarnet_changeforest::{lent, owned, Curves, Record, Split};
+use haspgarnet_changeforest::{lent, owned, Curves, Matrix, Node, Permutations, Record, Refusal, Settings, Split};
+
+fn column(cells: &[f64]) -> Matrix<'_> {
+    Matrix { cells, rows: cells.len(), columns: 1 }
+}
+
+fn with_m(m: usize) -> Settings<'static> {
+    Settings { m, ..Settings::default() }
+}
+
+fn ends(record: &Record) -> (usize, usize) {
+    (record.start, record.stop)
+}
+
+fn choice(node: &Node) -> Option<(usize, usize, usize, f64)> {
+    node.choice().map(|record| (record.start, record.stop, record.split, record.gain))
+}
+
+fn place(found: Split) -> (usize, f64) {
+    (found.split, found.gain)
+}
 
 #[test]
 fn candidates() {
-    assert_eq!(owned::split_candidates(10, 3, &[], 0, 10).unwrap(), [3, 4, 5, 6]);
-    assert_eq!(owned::split_candidates(10, 5, &[], 0, 10).unwrap_err().number(), 9);
-    assert_eq!(owned::split_candidates(9, 4, &[], 0, 9).unwrap(), [4]);
-    assert_eq!(owned::split_candidates(10, 3, &[3, 5], 0, 10).unwrap(), [3, 6]);
-    assert_eq!(owned::split_candidates(10, 3, &[0, 9], 0, 10).unwrap_err().number(), 10);
+    let barred = |forbidden| Settings { forbidden: Some(forbidden), ..with_m(3) };
+    assert_eq!(owned::split_candidates(10, 0..10, &with_m(3)).unwrap(), [3, 4, 5, 6]);
+    assert_eq!(owned::split_candidates(10, 0..10, &with_m(5)).unwrap_err().number(), 9);
+    assert_eq!(owned::split_candidates(9, 0..9, &with_m(4)).unwrap(), [4]);
+    assert_eq!(owned::split_candidates(10, 0..10, &barred(&[3, 5])).unwrap(), [3, 6]);
+    assert_eq!(owned::split_candidates(10, 0..10, &barred(&[0, 9])).unwrap_err().number(), 10);
 }
 
 #[test]
 fn only_told_entries_are_written() {
     let mut rows = [77; 8];
-    assert_eq!(lent::split_candidates(10, 3, &[3, 5], 0, 10, &mut rows), Ok(2));
+    let settings = Settings { forbidden: Some(&[3, 5]), ..with_m(3) };
+    assert_eq!(lent::split_candidates(10, 0..10, &settings, &mut rows), Ok(2));
     assert_eq!(rows, [3, 6, 77, 77, 77, 77, 77, 77]);
 }
 
 #[test]
 fn the_first_of_equal_gains_wins() {
-    let cells = [0.0, 0.0, 8.0, 0.0, 0.0];
+    let readings = column(&[0.0, 0.0, 8.0, 0.0, 0.0]);
     let gain = 256.0 / 30.0;
-    assert_eq!(owned::gain(&cells, 5, 1, 0, 5, 2), Ok(gain));
-    assert_eq!(owned::gain(&cells, 5, 1, 0, 5, 3), Ok(gain));
-    assert_eq!(owned::find_best_split(&cells, 5, 1, 1, &[], 0, 5), Ok(Split { split: 2, gain }));
+    assert_eq!(owned::gain(readings, 0..5, 2), Ok(gain));
+    assert_eq!(owned::gain(readings, 0..5, 3), Ok(gain));
+    assert_eq!(place(owned::find_best_split(readings, 0..5, &with_m(1)).unwrap()), (2, gain));
     let mut sums = [7.5; 7];
-    lent::gain(&cells, 5, 1, 0, 5, 2, &mut sums).unwrap();
+    lent::gain(readings, 0..5, 2, &mut sums).unwrap();
     assert_eq!(sums, [0.0, 0.0, 0.0, 8.0, 8.0, 8.0, 7.5]);
 }
 
 #[test]
 fn the_whole_case() {
-    let cells = [0.0, 0.0, 0.0, 0.0, 8.0, 8.0, 8.0, 8.0];
-    let tree = owned::tree(&cells, 8, 1, 1, 10.0, &[], &[]).unwrap();
+    let readings = column(&[0.0, 0.0, 0.0, 0.0, 8.0, 8.0, 8.0, 8.0]);
+    let tree = owned::tree(readings, &Settings { threshold: 10.0, ..with_m(1) }).unwrap();
     assert_eq!(tree.cuts, [4]);
     assert_eq!(tree.nodes.len(), 3);
     let whole = tree.nodes[0];
     assert_eq!((whole.start, whole.stop, whole.significant, whole.left, whole.right), (0, 8, true, 1, 2));
-    assert_eq!(whole.choice(), Some(Record { start: 0, stop: 8, split: 4, gain: 128.0 }));
+    assert_eq!(choice(&whole), Some((0, 8, 4, 128.0)));
     assert_eq!(tree.records.len(), 3);
     assert_eq!(tree.records[0], whole.choice().unwrap());
 }
 
 #[test]
 fn the_most_nodes() {
-    let tree = owned::tree(&[0.0; 5], 5, 1, 1, -1.0, &[], &[]).unwrap();
+    let everywhere = |m| Settings { threshold: -1.0, ..with_m(m) };
+    let tree = owned::tree(column(&[0.0; 5]), &everywhere(1)).unwrap();
     assert_eq!((tree.cuts, tree.nodes.len()), (vec![1, 2, 3], 7));
     assert_eq!(tree.nodes[1].choice(), None);
     for (n, m) in [(1, 1), (2, 2), (100, 7), (4096, 1)] {
         let most = (2 * ((n - 1) / m)).max(2) - 1;
-        assert_eq!(owned::tree(&vec![0.0; n], n, 1, m, -1.0, &[], &[]).unwrap().nodes.len(), most);
+        assert_eq!(owned::tree(column(&vec![0.0; n]), &everywhere(m)).unwrap().nodes.len(), most);
     }
 }
 
 #[test]
 fn a_choice_may_be_a_seeded_segments() {
-    let tree = owned::tree(&[0.0; 20], 20, 1, 1, 0.0, &[], &[0.5]).unwrap();
+    let layered = |threshold| Settings { threshold, layers: &[0.5], ..with_m(1) };
+    let tree = owned::tree(column(&[0.0; 20]), &layered(0.0)).unwrap();
     assert_eq!((tree.nodes.len(), tree.records.len()), (1, 4));
     let mut bump = [0.0; 20];
     bump[5..10].fill(8.0);
-    let tree = owned::tree(&bump, 20, 1, 1, 10.0, &[], &[0.5]).unwrap();
+    let tree = owned::tree(column(&bump), &layered(10.0)).unwrap();
     assert_eq!(tree.cuts, [5, 10]);
-    assert_eq!(tree.nodes[0].choice(), Some(Record { start: 0, stop: 10, split: 5, gain: 160.0 }));
+    assert_eq!(choice(&tree.nodes[0]), Some((0, 10, 5, 160.0)));
 }
 
 #[test]
 fn neighbours() {
-    let cells = [0.0, 1.0, 3.0, 7.0];
-    assert_eq!(owned::predict(&cells, 4, 1, 0, 4, 2).unwrap(), [0.5, 0.5, 0.0, 0.5]);
-    let ordering = owned::ordering(&cells, 4, 1).unwrap();
+    let readings = column(&[0.0, 1.0, 3.0, 7.0]);
+    assert_eq!(owned::predict(readings, 0..4, 2).unwrap(), [0.5, 0.5, 0.0, 0.5]);
+    let ordering = owned::ordering(readings).unwrap();
     assert_eq!(ordering, [0, 1, 2, 3, 1, 0, 2, 3, 2, 1, 0, 3, 3, 2, 1, 0]);
 }
 
 #[test]
 fn permutations() {
-    let curves = Curves { deltas: [&[1.0, 0.0, -1.0], &[], &[]], bases: [0.0; 3], count: 1 };
-    let found = lent::permutation_test(curves, &[2, 1, 0, 0, 1, 2, 1, 0, 2], 3, 1, 0.05, 1.0).unwrap();
-    assert_eq!((found.counter, found.p_value, found.significant), (3, 0.75, false));
-    let loose = lent::permutation_test(curves, &[2, 1, 0, 0, 1, 2, 1, 0, 2], 3, 1, 0.8, 1.0).unwrap();
-    assert!(loose.significant);
+    let curves = Curves { deltas: [&[1.0, 0.0, -1.0], &[], &[]], count: 1, ..Curves::default() };
+    let three = Permutations { entries: &[2, 1, 0, 0, 1, 2, 1, 0, 2], count: 3 };
+    let tested = |alpha| lent::permutation_test(curves, three, 1.0, &Settings { alpha, ..with_m(1) }).unwrap();
+    let strict = tested(0.05);
+    assert_eq!((strict.counter, strict.p_value, strict.significant), (3, 0.75, false));
+    assert!(tested(0.8).significant);
 }
 
 #[test]
 fn layers() {
-    let ends = |v| -> Vec<(usize, usize)> {
-        let records = owned::seeded_segments(&[0.0; 20], 20, 1, 1, &[], &[v]).unwrap();
-        records.iter().map(|r: &Record| (r.start, r.stop)).collect()
+    let seeded = |v| -> Vec<(usize, usize)> {
+        let settings = Settings { layers: &[v], ..with_m(1) };
+        owned::seeded_segments(column(&[0.0; 20]), &settings).unwrap().iter().map(ends).collect()
     };
-    assert_eq!(ends(0.5), [(0, 10), (5, 15), (10, 20)]);
-    assert_eq!(ends(0.25), [0, 2, 5, 7, 10, 12, 15].map(|a| (a, a + 5)));
+    assert_eq!(seeded(0.5), [(0, 10), (5, 15), (10, 20)]);
+    assert_eq!(seeded(0.25), [0, 2, 5, 7, 10, 12, 15].map(|a| (a, a + 5)));
 }
 
 #[test]
 fn room_is_enough_for_every_layer() {
     for k in 1..4096 {
         let v = k as f64 / 4096.0;
-        assert!(owned::seeded_segments(&[0.0], 1, 1, 1, &[], &[v]).is_ok(), "{v}");
+        let settings = Settings { layers: &[v], ..with_m(1) };
+        assert!(owned::seeded_segments(column(&[0.0]), &settings).is_ok(), "{v}");
     }
 }
 
@@ -110,12 +136,39 @@ fn lengths() {
 fn curves_and_picks() {
     assert_eq!(owned::gain_from_likelihoods(&[3.0, 1.0, 0.0], &[1.0, 1.0, 2.0]).unwrap(), [4.0, 6.0, 6.0]);
     let curve = [9.0, f64::NAN, 4.0, 4.0, f64::INFINITY];
-    assert_eq!(lent::pick(&curve, 5, 1, &[], 0, 5, 3), Ok(Split { split: 2, gain: 4.0 }));
+    assert_eq!(place(lent::pick(&curve, 5, 0..5, 3, &with_m(1)).unwrap()), (2, 4.0));
 }
 
 #[test]
 fn an_empty_list_is_not_none() {
-    assert_eq!(lent::guesses(20, 1, None, 0, 20).unwrap().rows(), [5, 10, 15]);
-    assert_eq!(lent::guesses(20, 1, Some(&[]), 0, 20).unwrap().rows(), [5, 10, 14]);
-    assert_eq!(lent::guesses(20, 2, Some(&[]), 0, 5).unwrap().rows(), [2]);
+    let listed = |m| Settings { forbidden: Some(&[]), ..with_m(m) };
+    assert_eq!(lent::guesses(20, 0..20, &with_m(1)).unwrap().rows(), [5, 10, 15]);
+    assert_eq!(lent::guesses(20, 0..20, &listed(1)).unwrap().rows(), [5, 10, 14]);
+    assert_eq!(lent::guesses(20, 0..5, &listed(2)).unwrap().rows(), [2]);
+}
+
+#[test]
+fn to_the_others_an_empty_list_is_none() {
+    let listed = Settings { forbidden: Some(&[]), threshold: -1.0, ..with_m(1) };
+    let unlisted = Settings { forbidden: None, ..listed };
+    let readings = column(&[0.0, 0.0, 8.0, 0.0, 0.0]);
+    assert_eq!(owned::split_candidates(5, 0..5, &listed), owned::split_candidates(5, 0..5, &unlisted));
+    assert_eq!(owned::find_best_split(readings, 1..5, &listed), owned::find_best_split(readings, 1..5, &unlisted));
+    assert_eq!(owned::tree(readings, &listed), owned::tree(readings, &unlisted));
+    let pick = |settings| lent::pick(readings.cells, 5, 0..5, 1, settings);
+    assert_eq!(pick(&listed), pick(&unlisted));
+}
+
+/// The code of docs/EMBEDDING.md, over the readings of embedding/example.c.
+#[test]
+fn the_page() -> Result<(), Refusal> {
+    let cells = [
+        3.0, 10.0, 4.0, 10.0, 3.0, 11.0, 4.0, 10.0, 3.0, 10.0, 9.0, 10.0, //
+        8.0, 10.0, 9.0, 11.0, 8.0, 10.0, 9.0, 15.0, 8.0, 15.0, 9.0, 14.0,
+    ];
+    let readings = Matrix { cells: &cells, rows: 12, columns: 2 };
+    let settings = Settings { m: 2, threshold: 10.0, forbidden: Some(&[2, 3]), layers: &[0.5], ..Settings::default() };
+    let sheet = owned::tree(readings, &settings)?.cuts;
+    assert_eq!(sheet, [5, 9]);
+    Ok(())
 }

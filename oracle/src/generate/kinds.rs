@@ -1,4 +1,4 @@
-//! A case of each kind, most of them small; few at the limits of document 01.
+//! A case of each kind, most of them small. Those at a limit are in limits.rs.
 
 use crate::draft::Draft;
 use crate::random::Random;
@@ -34,7 +34,7 @@ fn columns(random: &mut Random, n: u64) -> u64 {
     }
 }
 
-fn matrix(random: &mut Random, draft: &mut Draft, n: u64, d: u64) {
+pub fn matrix(random: &mut Random, draft: &mut Draft, n: u64, d: u64) {
     (draft.n, draft.d) = (n, d);
     draft.cells = values::cells(random, n, d);
 }
@@ -111,7 +111,7 @@ fn curve(random: &mut Random, draft: &mut Draft) {
 }
 
 /// The pick's curve may hold infinities and NaN.
-fn pick(random: &mut Random, draft: &mut Draft) {
+pub fn pick(random: &mut Random, draft: &mut Draft) {
     let length = draft.stop - draft.start;
     let mut curve = values::values(random, length);
     let often = random.of(&[0, 0, 1, 4]);
@@ -155,7 +155,7 @@ pub fn permutations(random: &mut Random, draft: &mut Draft, length: u64) {
 }
 
 /// Often a sum that some permutation reaches, so that the first sum that isn't below it counts.
-fn maximum(random: &mut Random, draft: &Draft) -> f64 {
+pub fn maximum(random: &mut Random, draft: &Draft) -> f64 {
     let which = random.below(draft.curves.len() as u64) as usize;
     let curve = &draft.curves[which];
     let mut sum = draft.bases[which];
@@ -235,88 +235,4 @@ pub fn draft(random: &mut Random, kind: &'static str) -> Draft {
         _ => unreachable!(),
     }
     draft
-}
-
-/// A case at a limit of document 01, or of the page's capacities.
-pub fn at_limit(random: &mut Random, kind: &'static str) -> Draft {
-    let mut draft = draft(random, kind);
-    match kind {
-        "gain" | "search" | "tree" => {
-            let (n, d) = random.of(&[(4_096, 1), (4_095, 1), (256, 60), (255, 64), (4_096, 4)]);
-            matrix(random, &mut draft, n, d);
-            (draft.start, draft.stop, draft.m) = (0, n, random.of(&[1, 7, n / 2 - 1]));
-            draft.split = random.between(0, n);
-            if d > 1 {
-                draft.forbidden = None;
-            }
-            if random.one_in(4) {
-                draft.layers = random.of(&[&[1.0 / 4096.0; 3][..], &[0.5; 64], &[0.5; 101]]).into();
-            } else if d == 1 && random.one_in(2) {
-                (draft.cells, draft.value) = (vec![0.0; n as usize], -1.0);
-            }
-        }
-        "order" | "knn" => {
-            let n = random.of(&[256, 512, 513, 1_024]);
-            matrix(random, &mut draft, n, 1);
-            (draft.start, draft.stop, draft.split) = (0, n, n / 2);
-        }
-        "curve" => {
-            let length = random.of(&[4_096, 4_097, 4_098]);
-            draft.curves = vec![values::values(random, length), values::values(random, length)];
-        }
-        "cand" | "guesses" | "pick" => {
-            (draft.n, draft.start, draft.stop) = (4_096, 0, 4_096);
-            draft.m = random.of(&[1, 2_047, 2_048, 4_096]);
-            if random.one_in(2) {
-                draft.forbidden = Some((0..random.of(&[256, 258])).collect());
-            }
-            if kind == "pick" {
-                pick(random, &mut draft);
-            }
-        }
-        "perm" => {
-            let (p, length) = random.of(&[(999, 16), (3, 4_096), (4, 4_096), (3, 4_097)]);
-            (draft.p, draft.m) = (p, random.of(&[1, 7]));
-            draft.curves = vec![values::values(random, length)];
-            draft.bases = vec![0.0];
-            permutations(random, &mut draft, length);
-            draft.max = maximum(random, &draft);
-        }
-        _ => (),
-    }
-    draft
-}
-
-/// A case that the others seldom or never come to. A kind that has none gives a case at a limit.
-pub fn at_edge(random: &mut Random, kind: &'static str) -> Draft {
-    let mut draft = draft(random, kind);
-    match kind {
-        "order" | "knn" => {
-            let n = random.of(&[100, 200, 511, 1_025]);
-            matrix(random, &mut draft, n, 1);
-            (draft.start, draft.stop, draft.split) = (random.below(n), n, n);
-        }
-        "pick" => draft.n = draft.stop.saturating_sub(random.below(2)).max(1),
-        "perm" => many(random, &mut draft),
-        _ => return at_limit(random, kind),
-    }
-    draft
-}
-
-/// Permutations up to P's limit or past it, or curves past those that are lent.
-fn many(random: &mut Random, draft: &mut Draft) {
-    let few = random.of(&[3, 5, 7, 16]);
-    let (p, length) = random.of(&[(999, few), (999, few), (1_000, few), (5, 3_277), (2, few)]);
-    let count = if p == 2 { random.between(4, 6) } else { random.between(1, 3) };
-    (draft.p, draft.m) = (p, random.between(1, (few - 1) / 2));
-    draft.curves = (0..count).map(|_| values::values(random, length)).collect();
-    draft.bases = values::values(random, count);
-    permutations(random, draft, length);
-    draft.max = maximum(random, draft);
-    match random.below(3) {
-        0 if count > 3 => draft.curves[3][0] = values::not_finite(random),
-        1 if count > 3 => draft.curves[3] = vec![0.0; random.of(&[1, 4_097, 4_098])],
-        2 if count > 3 => draft.bases[3] = values::not_finite(random),
-        _ => draft.value = random.between(1, p) as f64 / (p + 1) as f64,
-    }
 }

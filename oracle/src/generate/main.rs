@@ -4,6 +4,7 @@
 
 mod draft;
 mod kinds;
+mod limits;
 mod random;
 mod spoil;
 mod values;
@@ -20,10 +21,10 @@ const UNKNOWN: &str = "unknown";
 fn line(random: &mut Random, sort: &'static str, kinds: &[&'static str]) -> String {
     let kind = if KINDS.contains(&sort) { sort } else { random.of(kinds) };
     if sort == EDGE {
-        return kinds::at_edge(random, kind).line();
+        return limits::at_edge(random, kind).line();
     }
     if sort == LIMIT || random.one_in(4_000) {
-        return kinds::at_limit(random, kind).line();
+        return limits::at_limit(random, kind).line();
     }
     let line = case(random, kind);
     match sort == UNKNOWN || random.one_in(250) {

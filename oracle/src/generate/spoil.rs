@@ -66,15 +66,17 @@ pub fn spoil(random: &mut Random, draft: &mut Draft, number: u64) {
             let length = draft.stop.saturating_sub(draft.start);
             draft.m = random.of(&[length.div_ceil(2), length, 4_096]).clamp(1, 4_096);
         }
-        10 => {
-            let last = random.of(&[draft.stop, draft.n, u64::MAX]);
-            let first = random.of(&[0, draft.start]).min(last);
-            let middle = random.between(first, last.min(first.saturating_add(50)));
-            draft.forbidden = Some(vec![middle, last, first, middle]);
-        }
+        10 => bar_all(random, draft),
         11 => permutation(random, draft),
         _ => curves(random, draft),
     }
+}
+
+fn bar_all(random: &mut Random, draft: &mut Draft) {
+    let last = random.of(&[draft.stop, draft.n, u64::MAX]);
+    let first = random.of(&[0, draft.start]).min(last);
+    let middle = random.between(first, last.min(first.saturating_add(50)));
+    draft.forbidden = Some(vec![middle, last, first, middle]);
 }
 
 fn size(random: &mut Random, draft: &mut Draft) {

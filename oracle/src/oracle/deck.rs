@@ -1,34 +1,33 @@
 //! The text program of document 01 ("The program"): a deck's bytes in, the sheet's bytes out. The
 //! grammar and the refusals are a second reading of that section; the tree is the Rust's.
 
-use crate::answer::bits;
-use crate::case::{value, Matrix};
-use crate::original::{self, Grown};
+use crate::original;
+use protocol::{bits, value, Grown, Matrix};
 
 const LONGEST_LINE: usize = 1_024;
 const MOST_DIGITS: usize = 10;
-const MOST_ROWS: u64 = 256;
-const MOST_COLUMNS: u64 = 64;
+const MOST_ROWS: usize = 256;
+const MOST_COLUMNS: usize = 64;
 const MOST_CELLS: u128 = 2_048;
-const MOST_M: u64 = 4_096;
+const MOST_M: usize = 4_096;
 const MOST_PAIRS: usize = 64;
 const CELLS_IN_ROW: usize = 64;
 
 struct Deck {
-    n: u64,
-    d: u64,
-    m: u64,
+    n: usize,
+    d: usize,
+    m: usize,
     threshold: f64,
-    pairs: Vec<[u64; 2]>,
+    pairs: Vec<[usize; 2]>,
     cells: Vec<i64>,
     rows_begun: bool,
 }
 
 /// "numbers have at most 10 digits, no leading zero or plus".
-fn number(field: &[u8]) -> Option<u64> {
+fn number(field: &[u8]) -> Option<usize> {
     let digits = field.iter().all(u8::is_ascii_digit) && (1..=MOST_DIGITS).contains(&field.len());
     let leading = field.len() > 1 && field[0] == b'0';
-    let digit = |number: u64, byte: &u8| number * 10 + u64::from(byte - b'0');
+    let digit = |number: usize, byte: &u8| number * 10 + usize::from(byte - b'0');
     (digits && !leading).then(|| field.iter().fold(0, digit))
 }
 
@@ -72,7 +71,7 @@ impl Deck {
     /// The lowest number that applies.
     fn refusal(&self) -> Option<usize> {
         let size = self.n < 1 || self.n > MOST_ROWS || self.d < 1 || self.d > MOST_COLUMNS;
-        let cells = u128::from(self.n) * u128::from(self.d);
+        let cells = self.n as u128 * self.d as u128;
         let one = size || cells > MOST_CELLS || self.cells.len() as u128 != cells;
         let two = self.m < 1 || self.m > MOST_M;
         let three = self.threshold.is_nan();

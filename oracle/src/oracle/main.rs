@@ -4,10 +4,8 @@
 //! oracle decks: the same for many decks, each deck and each sheet with its length (u64) before it.
 
 mod answer;
-mod case;
 mod deck;
 mod original;
-mod room;
 mod rules;
 
 use std::io::{stdin, stdout, BufRead, BufWriter, Read, Result, Write};

@@ -1,6 +1,5 @@
 //! Calls of the original Rust: one function for each kind of case, and what it refuses by itself.
 
-use crate::case::{Case, Forbidden, Matrix, Perm, Segment};
 use changeforest::classifier::kNN;
 use changeforest::gain::{
     gain_from_likelihoods, ApproxGain, ApproxGainResult, ChangeInMean, GainResult,
@@ -12,29 +11,10 @@ use changeforest::{
     ModelSelectionResult, Optimizer, Segmentation, SegmentationType,
 };
 use ndarray::{Array1, Array2, ArrayView2};
+use protocol::{
+    Cand, Case, Forbidden, Grown, Guesses, Matrix, Node, Perm, Pick, Record, Rel, Search, Segment,
+};
 use std::panic::catch_unwind;
-
-pub struct Record {
-    pub start: usize,
-    pub stop: usize,
-    pub split: usize,
-    pub gain: f64,
-}
-
-pub struct Node {
-    pub start: usize,
-    pub stop: usize,
-    pub significant: bool,
-    pub choice: Option<Record>,
-    pub parts: [usize; 2],
-}
-
-/// A grown tree: its nodes in preorder, its sheet, its records in the order stored.
-pub struct Grown {
-    pub nodes: Vec<Node>,
-    pub cuts: Vec<usize>,
-    pub records: Vec<Record>,
-}
 
 /// The least that the traits ask for: a run of n rows, its settings and a lent gain curve.
 struct Run {
@@ -103,28 +83,24 @@ impl Classifier for Run {
     }
 }
 
-fn size(number: u64) -> usize {
-    number.try_into().expect("usize has 64 bits")
-}
-
 fn pairs(forbidden: &Forbidden) -> Option<Vec<(usize, usize)>> {
-    let pair = |pair: &[u64]| (size(pair[0]), size(pair[1]));
+    let pair = |pair: &[usize]| (pair[0], pair[1]);
     forbidden.as_ref().map(|list| list.chunks_exact(2).map(pair).collect())
 }
 
-fn control(m: u64, forbidden: &Forbidden) -> Control {
+fn control(m: usize, forbidden: &Forbidden) -> Control {
     let mut control = Control::default().with_forbidden_segments(pairs(forbidden));
-    control.whole_m = Some(size(m));
+    control.whole_m = Some(m);
     control
 }
 
 fn run(segment: &Segment) -> Run {
     let control = control(segment.m, &segment.forbidden);
-    Run { n: size(segment.n), control, curve: vec![] }
+    Run { n: segment.n, control, curve: vec![] }
 }
 
 fn view(matrix: &Matrix) -> ArrayView2<'_, f64> {
-    ArrayView2::from_flat((size(matrix.n), size(matrix.d)), &matrix.cells)
+    ArrayView2::from_flat((matrix.n, matrix.d), &matrix.cells)
 }
 
 fn record(result: &OptimizerResult) -> Record {
@@ -139,25 +115,25 @@ fn candidates(run: &Run, start: usize, stop: usize) -> Result<Vec<usize>, usize>
 }
 
 /// The candidates where a relative length gives m.
-pub fn relative(r: f64, n: u64, start: usize, stop: usize) -> Result<Vec<usize>, usize> {
+pub fn relative(r: f64, n: usize, start: usize, stop: usize) -> Result<Vec<usize>, usize> {
     let control = Control::default().with_minimal_relative_segment_length(r);
-    candidates(&Run { n: size(n), control, curve: vec![] }, start, stop)
+    candidates(&Run { n: n, control, curve: vec![] }, start, stop)
 }
 
 /// m of a relative length: the first candidate of a segment that is long enough for every m.
-pub fn rel(r: f64, n: u64) -> usize {
+pub fn rel(r: f64, n: usize) -> usize {
     relative(r, n, 0, 8_194).expect("2*m is at most 8,192")[0]
 }
 
 pub fn cand(segment: &Segment) -> Result<Vec<usize>, usize> {
-    candidates(&run(segment), size(segment.start), size(segment.stop))
+    candidates(&run(segment), segment.start, segment.stop)
 }
 
 /// The gain and the prefix sums.
-pub fn gain(matrix: &Matrix, start: u64, stop: u64, split: u64) -> (f64, Vec<f64>) {
+pub fn gain(matrix: &Matrix, start: usize, stop: usize, split: usize) -> (f64, Vec<f64>) {
     let (view, control) = (view(matrix), Control::default());
     let mean = ChangeInMean::new(&view, &control);
-    let gain = mean.gain(size(start), size(stop), size(split));
+    let gain = mean.gain(start, stop, split);
     let sums = mean.get_cumsum().iter().copied().collect();
     (gain, sums)
 }
@@ -165,11 +141,11 @@ pub fn gain(matrix: &Matrix, start: u64, stop: u64, split: u64) -> (f64, Vec<f64
 pub fn search(matrix: &Matrix, segment: &Segment) -> Record {
     let (view, control) = (view(matrix), control(segment.m, &segment.forbidden));
     let grid = GridSearch { gain: ChangeInMean::new(&view, &control) };
-    let found = grid.find_best_split(size(segment.start), size(segment.stop));
+    let found = grid.find_best_split(segment.start, segment.stop);
     record(&found.expect("an admitted segment has candidates"))
 }
 
-pub fn tree(matrix: &Matrix, m: u64, threshold: f64, no: &Forbidden, layers: &[f64]) -> Grown {
+pub fn tree(matrix: &Matrix, m: usize, threshold: f64, no: &Forbidden, layers: &[f64]) -> Grown {
     let view = view(matrix);
     let mut control = control(m, no).with_minimal_gain_to_split(Some(threshold));
     control.lent_layers = layers.to_vec();
@@ -204,17 +180,18 @@ fn list(result: &BinarySegmentationResult, nodes: &mut Vec<Node>) {
 }
 
 /// The ordering, row after row, and the last row's distances.
-pub fn order(matrix: &Matrix) -> (Vec<usize>, Vec<f64>) {
+pub fn order(matrix: &Matrix) -> (Vec<u32>, Vec<f64>) {
     let (view, control) = (view(matrix), Control::default());
     let neighbours = kNN::new(&view, &control);
-    let ordering = neighbours.get_ordering().iter().copied().collect();
+    let place = |row: &usize| u32::try_from(*row).expect("rows are few");
+    let ordering = neighbours.get_ordering().iter().map(place).collect();
     (ordering, LAST_DISTANCES.take())
 }
 
-pub fn knn(matrix: &Matrix, start: u64, stop: u64, split: u64) -> Vec<f64> {
+pub fn knn(matrix: &Matrix, start: usize, stop: usize, split: usize) -> Vec<f64> {
     let (view, control) = (view(matrix), Control::default());
     let neighbours = kNN::new(&view, &control);
-    let predictions = neighbours.predict(size(start), size(stop), size(split));
+    let predictions = neighbours.predict(start, stop, split);
     predictions.iter().copied().collect()
 }
 
@@ -223,18 +200,18 @@ pub fn curve(l0: &[f64], l1: &[f64]) -> Vec<f64> {
 }
 
 /// The pick over the candidates, from a guess and a lent curve.
-pub fn pick(segment: &Segment, guess: u64, curve: &[f64]) -> (usize, f64) {
+pub fn pick(segment: &Segment, guess: usize, curve: &[f64]) -> (usize, f64) {
     let candidates = cand(segment).expect("an admitted segment has candidates");
     let gain = Run { curve: curve.to_vec(), ..run(segment) };
-    let (start, stop) = (size(segment.start), size(segment.stop));
+    let (start, stop) = (segment.start, segment.stop);
     let search = TwoStepSearch { gain };
-    let best = search._single_find_best_split(start, stop, size(guess), &candidates);
+    let best = search._single_find_best_split(start, stop, guess, &candidates);
     (best.best_split().expect("a split is set"), best.max_gain().expect("a gain is set"))
 }
 
 /// The guesses: a whole search over an even curve keeps one result for each, then the last one.
 pub fn guesses(segment: &Segment) -> Vec<usize> {
-    let (start, stop) = (size(segment.start), size(segment.stop));
+    let (start, stop) = (segment.start, segment.stop);
     let gain = Run { curve: vec![0.; stop - start], ..run(segment) };
     let search = TwoStepSearch { gain };
     let found = search.find_best_split(start, stop).expect("an admitted segment has candidates");
@@ -243,18 +220,18 @@ pub fn guesses(segment: &Segment) -> Vec<usize> {
 }
 
 /// The counter, p and significance of lent permutations of 0..L-1, L being the curves' length.
-pub fn perm(case: &Perm) -> (u64, f64, bool) {
+pub fn perm(case: &Perm) -> (usize, f64, bool) {
     permuted(case, case.deltas[0].len())
 }
 
 /// The counter isn't handed out: p*(P+1), rounded, gives it.
-pub fn permuted(case: &Perm, l: usize) -> (u64, f64, bool) {
+pub fn permuted(case: &Perm, l: usize) -> (usize, f64, bool) {
     let control = control(case.m, &None)
         .with_model_selection_alpha(case.alpha)
-        .with_model_selection_n_permutations(size(case.p));
+        .with_model_selection_n_permutations(case.p);
     let curves = case.deltas.iter().map(|curve| Array1::from_vec(curve.clone())).collect();
     LENT_CURVES.set(Some((curves, case.bases.clone())));
-    rand::lend(case.perms.chunks_exact(l).map(|one| one.iter().map(|i| size(*i)).collect()));
+    rand::lend(case.perms.chunks_exact(l).map(<[usize]>::to_vec));
     let gain = ClassifierGain { classifier: Run { n: l, control, curve: vec![] } };
     let result = gain.model_selection(&OptimizerResult {
         start: 0,
@@ -266,7 +243,7 @@ pub fn permuted(case: &Perm, l: usize) -> (u64, f64, bool) {
     let p = result.p_value.expect("a p-value is set");
     let counter = (p * (case.p + 1) as f64).round();
     assert!(counter / (case.p + 1) as f64 == p);
-    (counter as u64, p, result.is_significant)
+    (counter as usize, p, result.is_significant)
 }
 
 /// Results of a first step whose maximum is `max`, and one more, as the search leaves them.
@@ -289,7 +266,7 @@ fn first_step(l: usize, max: f64, count: usize) -> Vec<GainResult> {
 /// given, are left out (docs/DIFFERENCES.md).
 pub fn own(case: &Case) -> Vec<(usize, bool)> {
     match case {
-        Case::Rel { r, .. } if !r.is_nan() => {
+        Case::Rel(Rel { r, .. }) if !r.is_nan() => {
             let set = || Control::default().with_minimal_relative_segment_length(*r);
             vec![(2, catch_unwind(set).is_err())]
         }
@@ -297,11 +274,11 @@ pub fn own(case: &Case) -> Vec<(usize, bool)> {
             let set = || Control::default().with_model_selection_alpha(*alpha);
             vec![(3, catch_unwind(set).is_err())]
         }
-        Case::Tree { forbidden, .. } => own_list(forbidden),
-        Case::Cand { segment }
-        | Case::Search { segment, .. }
-        | Case::Pick { segment, .. }
-        | Case::Guesses { segment } => {
+        Case::Tree(case) => own_list(&case.forbidden),
+        Case::Cand(Cand { segment })
+        | Case::Search(Search { segment, .. })
+        | Case::Pick(Pick { segment, .. })
+        | Case::Guesses(Guesses { segment }) => {
             let list = own_list(&segment.forbidden);
             match list[..] {
                 [(5, false)] => list.into_iter().chain(own_candidates(segment)).collect(),
@@ -323,7 +300,7 @@ fn own_list(forbidden: &Forbidden) -> Vec<(usize, bool)> {
 
 /// The Rust takes any ends; it is asked where they are in order and of a size to be listed.
 fn own_candidates(segment: &Segment) -> Vec<(usize, bool)> {
-    const LONGEST: u64 = 100_000;
+    const LONGEST: usize = 100_000;
     let listed = segment.start <= segment.stop && segment.stop <= LONGEST && segment.m <= LONGEST;
     if !listed {
         return vec![];

@@ -2,16 +2,18 @@
 //! that go with it, made for the oracle alone. Nothing here is taken from the Rust, which has few
 //! refusals, nor from the code that the oracle judges. Rule by rule, in number order.
 
-use crate::case::{Case, Forbidden, Matrix, Perm, Segment};
+use protocol::{
+    Cand, Case, Curve, Forbidden, Gain, Guesses, Knn, Matrix, Perm, Pick, Rel, Segment, Tree,
+};
 
-const MOST_ROWS: u64 = 4_096;
-const MOST_NEIGHBOUR_ROWS: u64 = 1_024;
-const MOST_COLUMNS: u64 = 64;
-const MOST_M: u64 = 4_096;
+const MOST_ROWS: usize = 4_096;
+const MOST_NEIGHBOUR_ROWS: usize = 1_024;
+const MOST_COLUMNS: usize = 64;
+const MOST_M: usize = 4_096;
 const MOST_LAYERS: usize = 64;
 const SMALLEST_LAYER: f64 = 1.0 / 4096.0;
-const MOST_PERMUTATIONS: u64 = 999;
-const MOST_CURVES: u64 = 3;
+const MOST_PERMUTATIONS: usize = 999;
+const MOST_CURVES: usize = 3;
 const LONGEST_CURVE: usize = 4_096;
 
 /// Which numbers apply; the lowest is given.
@@ -35,19 +37,19 @@ impl Verdict {
 
 // 1: "n or d outside its size, or length not n*d". Without a matrix, n alone is judged.
 
-fn rows(n: u64, most: u64) -> bool {
+fn rows(n: usize, most: usize) -> bool {
     n < 1 || n > most
 }
 
-fn matrix(matrix: &Matrix, most: u64) -> bool {
+fn matrix(matrix: &Matrix, most: usize) -> bool {
     let columns = matrix.d < 1 || matrix.d > MOST_COLUMNS;
-    let cells = u128::from(matrix.n) * u128::from(matrix.d);
+    let cells = matrix.n as u128 * matrix.d as u128;
     rows(matrix.n, most) || columns || matrix.cells.len() as u128 != cells
 }
 
 // 2: "m outside its size; or a relative length not strictly between 0 and 0.5 (NaN included)".
 
-fn minimal_length(m: u64) -> bool {
+fn minimal_length(m: usize) -> bool {
     m < 1 || m > MOST_M
 }
 
@@ -73,7 +75,7 @@ fn not_finite(values: &[f64]) -> bool {
 
 // 5: "forbidden list of odd length, or a pair with a > b". A list that isn't given isn't looked at.
 
-fn pairs(forbidden: &Forbidden) -> impl Iterator<Item = (u64, u64)> + '_ {
+fn pairs(forbidden: &Forbidden) -> impl Iterator<Item = (usize, usize)> + '_ {
     let list = forbidden.as_deref().unwrap_or(&[]);
     list.chunks_exact(2).map(|pair| (pair[0], pair[1]))
 }
@@ -89,40 +91,41 @@ fn bad_layers(layers: &[f64]) -> bool {
     layers.len() > MOST_LAYERS || layers.iter().any(|v| !(*v >= SMALLEST_LAYER && *v < 1.0))
 }
 
-// 7: "a lent working or output slice shorter than stated here": room.rs, from the stated lengths.
+// 7: "a lent working or output slice shorter than stated here": ../protocol/room.rs, from the stated
+// lengths.
 
 // 8: "start > stop or stop > n; a given split (gain, kNN) below start or above stop; for kNN also
 // start = stop".
 
-fn outside(n: u64, start: u64, stop: u64) -> bool {
+fn outside(n: usize, start: usize, stop: usize) -> bool {
     start > stop || stop > n
 }
 
-fn split_outside(start: u64, stop: u64, split: u64) -> bool {
+fn split_outside(start: usize, stop: usize, split: usize) -> bool {
     split < start || split > stop
 }
 
 // 9: "2*m >= stop-start"; permutation counts "for 2*m >= L".
 
-fn too_short(m: u64, length: i128) -> bool {
-    2 * i128::from(m) >= length
+fn too_short(m: usize, length: i128) -> bool {
+    2 * m as i128 >= length
 }
 
 fn length(segment: &Segment) -> i128 {
-    i128::from(segment.stop) - i128::from(segment.start)
+    segment.stop as i128 - segment.start as i128
 }
 
 // 10: "a candidate range exists but every row of it is forbidden". Rows x with
 // start+m <= x < stop-m, except a < x <= b for some pair.
 
 fn range(segment: &Segment) -> (i128, i128) {
-    let m = i128::from(segment.m);
-    (i128::from(segment.start) + m, i128::from(segment.stop) - m)
+    let m = segment.m as i128;
+    (segment.start as i128 + m, segment.stop as i128 - m)
 }
 
 fn barred_up_to(forbidden: &Forbidden, x: i128) -> Option<i128> {
     let bars = |(a, b): &(i128, i128)| *a < x && x <= *b;
-    pairs(forbidden).map(|(a, b)| (a.into(), b.into())).find(bars).map(|(_, b)| b)
+    pairs(forbidden).map(|(a, b)| (a as i128, b as i128)).find(bars).map(|(_, b)| b)
 }
 
 fn all_barred(segment: &Segment) -> bool {
@@ -136,22 +139,22 @@ fn all_barred(segment: &Segment) -> bool {
     x >= end
 }
 
-fn is_candidate(segment: &Segment, x: u64) -> bool {
+fn is_candidate(segment: &Segment, x: usize) -> bool {
     let (first, end) = range(segment);
-    let x = i128::from(x);
+    let x = x as i128;
     first <= x && x < end && barred_up_to(&segment.forbidden, x).is_none()
 }
 
 // 11: "a permutation lacks an index of 0..L-1, holds one twice or out of range; list length not
 // P*L, or P > 999".
 
-fn bad_permutations(perms: &[u64], p: u64, l: usize) -> bool {
-    if p > MOST_PERMUTATIONS || perms.len() as u128 != u128::from(p) * l as u128 {
+fn bad_permutations(perms: &[usize], p: usize, l: usize) -> bool {
+    if p > MOST_PERMUTATIONS || perms.len() as u128 != p as u128 * l as u128 {
         return true;
     }
-    let twice_or_out = |one: &[u64]| {
+    let twice_or_out = |one: &[usize]| {
         let mut seen = vec![false; l];
-        one.iter().any(|i| *i >= l as u64 || std::mem::replace(&mut seen[*i as usize], true))
+        one.iter().any(|i| *i >= l || std::mem::replace(&mut seen[*i], true))
     };
     l > 0 && perms.chunks_exact(l).any(twice_or_out)
 }
@@ -177,7 +180,7 @@ fn searched(verdict: Verdict, segment: &Segment) -> Verdict {
 /// What lies beyond the count isn't looked at; with a count above 3 the three that are lent are.
 /// L is the first curve's length, 0 if there is none.
 fn permuted(verdict: Verdict, case: &Perm) -> Verdict {
-    let lent = case.k.min(MOST_CURVES) as usize;
+    let lent = case.k.min(MOST_CURVES);
     let (bases, deltas) = (&case.bases[..lent], &case.deltas[..lent]);
     let lengths: Vec<usize> = deltas.iter().map(Vec::len).collect();
     let l = lengths.first().copied().unwrap_or(0);
@@ -191,46 +194,52 @@ fn permuted(verdict: Verdict, case: &Perm) -> Verdict {
         .rule(12, case.k < 1 || case.k > MOST_CURVES || bad_lengths(&lengths))
 }
 
+/// 1 and 4 of a matrix.
+fn measured(verdict: Verdict, cells: &Matrix, most: usize) -> Verdict {
+    verdict.rule(1, matrix(cells, most)).rule(4, not_finite(&cells.cells))
+}
+
+/// 2, 3, 5 and 6 of a tree's settings.
+fn grown(verdict: Verdict, case: &Tree) -> Verdict {
+    verdict
+        .rule(2, minimal_length(case.m))
+        .rule(3, threshold(case.threshold))
+        .rule(5, bad_list(&case.forbidden))
+        .rule(6, bad_layers(&case.layers))
+}
+
+fn picked(verdict: Verdict, case: &Pick) -> Verdict {
+    let length = case.curve.len() as i128 != length(&case.segment);
+    searched(verdict, &case.segment)
+        .rule(12, bad_lengths(&[case.curve.len()]) || length)
+        .rule(12, !is_candidate(&case.segment, case.guess))
+}
+
 /// Every number that applies to a case; `short` says whether a lent slice is too short.
 pub fn judge(case: &Case, short: bool) -> Verdict {
     let verdict = Verdict::default().rule(7, short);
     match case {
-        Case::Rel { r, n } => verdict.rule(1, rows(*n, MOST_ROWS)).rule(2, relative_length(*r)),
-        Case::F32 { .. } => verdict,
-        Case::Cand { segment } | Case::Guesses { segment } => {
+        Case::Rel(Rel { r, n }) => {
+            verdict.rule(1, rows(*n, MOST_ROWS)).rule(2, relative_length(*r))
+        }
+        Case::F32(_) => verdict,
+        Case::Cand(Cand { segment }) | Case::Guesses(Guesses { segment }) => {
             searched(verdict.rule(1, rows(segment.n, MOST_ROWS)), segment)
         }
-        Case::Gain { matrix: cells, start, stop, split } => verdict
-            .rule(1, matrix(cells, MOST_ROWS))
-            .rule(4, not_finite(&cells.cells))
-            .rule(8, outside(cells.n, *start, *stop) || split_outside(*start, *stop, *split)),
-        Case::Search { matrix: cells, segment } => {
-            let verdict = verdict.rule(1, matrix(cells, MOST_ROWS));
-            searched(verdict.rule(4, not_finite(&cells.cells)), segment)
+        Case::Gain(Gain { matrix, start, stop, split }) => measured(verdict, matrix, MOST_ROWS)
+            .rule(8, outside(matrix.n, *start, *stop) || split_outside(*start, *stop, *split)),
+        Case::Search(case) => searched(measured(verdict, &case.matrix, MOST_ROWS), &case.segment),
+        Case::Tree(case) => grown(measured(verdict, &case.matrix, MOST_ROWS), case),
+        Case::Order(case) => measured(verdict, &case.matrix, MOST_NEIGHBOUR_ROWS),
+        Case::Knn(Knn { matrix, start, stop, split }) => {
+            measured(verdict, matrix, MOST_NEIGHBOUR_ROWS)
+                .rule(8, outside(matrix.n, *start, *stop) || split_outside(*start, *stop, *split))
+                .rule(8, start == stop)
         }
-        Case::Tree { matrix: cells, m, threshold: t, forbidden, layers } => verdict
-            .rule(1, matrix(cells, MOST_ROWS))
-            .rule(2, minimal_length(*m))
-            .rule(3, threshold(*t))
-            .rule(4, not_finite(&cells.cells))
-            .rule(5, bad_list(forbidden))
-            .rule(6, bad_layers(layers)),
-        Case::Order { matrix: cells } => {
-            verdict.rule(1, matrix(cells, MOST_NEIGHBOUR_ROWS)).rule(4, not_finite(&cells.cells))
-        }
-        Case::Knn { matrix: cells, start, stop, split } => verdict
-            .rule(1, matrix(cells, MOST_NEIGHBOUR_ROWS))
-            .rule(4, not_finite(&cells.cells))
-            .rule(8, outside(cells.n, *start, *stop) || split_outside(*start, *stop, *split))
-            .rule(8, start == stop),
-        Case::Curve { l0, l1 } => verdict
+        Case::Curve(Curve { l0, l1 }) => verdict
             .rule(4, not_finite(l0) || not_finite(l1))
             .rule(12, bad_lengths(&[l0.len(), l1.len()])),
-        Case::Pick { segment, guess, curve } => {
-            searched(verdict.rule(1, rows(segment.n, MOST_ROWS)), segment)
-                .rule(12, bad_lengths(&[curve.len()]) || curve.len() as i128 != length(segment))
-                .rule(12, !is_candidate(segment, *guess))
-        }
+        Case::Pick(case) => picked(verdict.rule(1, rows(case.segment.n, MOST_ROWS)), case),
         Case::Perm(case) => permuted(verdict, case),
     }
 }

@@ -1,0 +1,121 @@
+//! The fields of a line, parted by single blanks, read one after another.
+
+use crate::{Forbidden, Matrix, Segment};
+use std::slice::Split;
+
+// A number of the page has 64 bits.
+const _: () = assert!(usize::BITS == 64);
+
+/// Capacities of lists.
+const CELLS: usize = 262_144;
+const FORBIDDEN: usize = 2_048;
+pub(crate) const LAYERS: usize = 100;
+pub(crate) const CURVE: usize = 4_097;
+pub(crate) const PERMUTATIONS: usize = 262_144;
+
+pub struct Fields<'a> {
+    words: Split<'a, u8, fn(&u8) -> bool>,
+    passed: bool,
+}
+
+impl<'a> Fields<'a> {
+    pub(crate) fn of(words: &'a [u8]) -> Self {
+        Fields { words: words.split(|byte| *byte == b' '), passed: false }
+    }
+
+    /// Whether a list that was read passes its capacity.
+    pub(crate) fn passed(&self) -> bool {
+        self.passed
+    }
+
+    pub(crate) fn at_end(mut self) -> bool {
+        self.words.next().is_none()
+    }
+
+    pub fn word(&mut self) -> Option<&'a [u8]> {
+        self.words.next()
+    }
+
+    pub fn number(&mut self) -> Option<usize> {
+        number(self.word()?)
+    }
+
+    pub fn value(&mut self) -> Option<f64> {
+        value(self.word()?)
+    }
+
+    /// Reads `count` entries; a count is believed only as far as there are fields.
+    fn entries<T>(&mut self, count: usize, entry: fn(&[u8]) -> Option<T>) -> Option<Vec<T>> {
+        (0..count).map(|_| entry(self.word()?)).collect()
+    }
+
+    fn list<T>(&mut self, capacity: usize, entry: fn(&[u8]) -> Option<T>) -> Option<Vec<T>> {
+        let count = self.number()?;
+        let list = self.entries(count, entry)?;
+        self.passed |= list.len() > capacity;
+        Some(list)
+    }
+
+    /// As many values as `count` says, without a count of their own.
+    pub fn counted(&mut self, count: usize) -> Option<Vec<f64>> {
+        self.entries(count, value)
+    }
+
+    pub fn values(&mut self, capacity: usize) -> Option<Vec<f64>> {
+        self.list(capacity, value)
+    }
+
+    pub fn numbers(&mut self, capacity: usize) -> Option<Vec<usize>> {
+        self.list(capacity, number)
+    }
+
+    /// F
+    pub fn forbidden(&mut self) -> Option<Forbidden> {
+        if self.words.clone().next()? == b"-" {
+            self.word();
+            return Some(None);
+        }
+        self.numbers(FORBIDDEN).map(Some)
+    }
+
+    /// M F START STOP, of a run of n rows.
+    pub fn segment(&mut self, n: usize) -> Option<Segment> {
+        Some(Segment {
+            n,
+            m: self.number()?,
+            forbidden: self.forbidden()?,
+            start: self.number()?,
+            stop: self.number()?,
+        })
+    }
+
+    /// N D
+    pub fn size(&mut self) -> Option<(usize, usize)> {
+        Some((self.number()?, self.number()?))
+    }
+
+    /// CELLS
+    pub fn matrix(&mut self, (n, d): (usize, usize)) -> Option<Matrix> {
+        Some(Matrix { n, d, cells: self.values(CELLS)? })
+    }
+}
+
+/// Decimal, 64 bits, without leading zeros.
+fn number(field: &[u8]) -> Option<usize> {
+    if field.is_empty() || (field.len() > 1 && field[0] == b'0') {
+        return None;
+    }
+    let mut number: usize = 0;
+    for byte in field {
+        let digit = byte.is_ascii_digit().then(|| usize::from(byte - b'0'))?;
+        number = number.checked_mul(10)?.checked_add(digit)?;
+    }
+    Some(number)
+}
+
+/// 16 lower-case hex digits.
+pub fn value(field: &[u8]) -> Option<f64> {
+    let lower = field.iter().all(|byte| matches!(byte, b'0'..=b'9' | b'a'..=b'f'));
+    let digits = std::str::from_utf8(field).ok().filter(|_| lower && field.len() == 16)?;
+    u64::from_str_radix(digits, 16).ok().map(f64::from_bits)
+}

@@ -1,0 +1,122 @@
+//! The lines of docs/REPLAY.md, for the oracle and for the program that it is compared with: a case
+//! from its line, the room that it lends, the words of its answer. A kind of case has its struct in
+//! one of these files and its row in the table below. Nothing here judges a case.
+
+mod curves;
+mod fields;
+mod lengths;
+mod mean;
+mod neighbours;
+mod room;
+mod text;
+mod tree;
+mod two_step;
+
+pub use curves::{Curve, Perm};
+pub use fields::{value, Fields};
+pub use lengths::{Rel, F32};
+pub use mean::{Cand, Forbidden, Gain, Matrix, Search, Segment};
+pub use neighbours::{Knn, Order};
+pub use room::Slice;
+pub use text::{bits, same};
+pub use tree::{Grown, Node, Record, Tree};
+pub use two_step::{Guesses, Pick};
+
+use room::Short;
+
+/// A kind of case.
+pub trait Kind: Sized {
+    /// Reads the fields after the kind's word; nothing where they are not there.
+    fn read(fields: &mut Fields) -> Option<Self>;
+
+    /// The slices that it lends, in the page's order.
+    fn lends(&self) -> Vec<Slice> {
+        vec![]
+    }
+}
+
+macro_rules! kinds {
+    ($($word:literal $kind:ident,)*) => {
+        pub enum Case {
+            $($kind($kind),)*
+        }
+
+        impl Case {
+            fn read(word: &[u8], fields: &mut Fields) -> Option<Case> {
+                match word {
+                    $($word => $kind::read(fields).map(Case::$kind),)*
+                    _ => None,
+                }
+            }
+
+            fn lends(&self) -> Vec<Slice> {
+                match self {
+                    $(Case::$kind(case) => case.lends(),)*
+                }
+            }
+        }
+    };
+}
+
+kinds! {
+    b"rel" Rel,
+    b"f32" F32,
+    b"cand" Cand,
+    b"gain" Gain,
+    b"search" Search,
+    b"tree" Tree,
+    b"order" Order,
+    b"knn" Knn,
+    b"curve" Curve,
+    b"pick" Pick,
+    b"guesses" Guesses,
+    b"perm" Perm,
+}
+
+/// The longest line, LF included.
+const LONGEST: usize = 4_000_000;
+
+/// A line that is a case.
+pub struct Line {
+    pub case: Case,
+    /// Whether a list passes its capacity.
+    pub too_large: bool,
+    slices: Vec<Slice>,
+    short: Option<Short>,
+}
+
+impl Line {
+    /// The case of a line, or nothing if the line is no case.
+    pub fn read(line: &[u8]) -> Option<Line> {
+        let words = line.strip_suffix(b"\n").filter(|_| line.len() <= LONGEST)?;
+        let mut fields = Fields::of(words);
+        let mut word = fields.word()?;
+        let mut short = None;
+        if word == b"short" {
+            short = Some(Short { slice: fields.number()?, less: fields.number()? });
+            word = fields.word()?;
+        }
+        let case = Case::read(word, &mut fields)?;
+        let slices = case.lends();
+        let named = short.is_none_or(|short| (1..=slices.len()).contains(&short.slice));
+        let too_large = fields.passed();
+        (fields.at_end() && named).then_some(Line { case, too_large, slices, short })
+    }
+
+    /// How many entries of slice number `number`, counted from 1, are lent.
+    pub fn lent(&self, number: usize) -> usize {
+        let short = self.short.filter(|short| short.slice == number);
+        self.slices[number - 1].lent(short.map(|short| short.less))
+    }
+
+    /// Whether a slice is lent shorter than document 01 asks.
+    pub fn lends_too_little(&self) -> bool {
+        let mut numbered = self.slices.iter().zip(1..);
+        numbered.any(|(slice, number)| slice.asks_more_than(self.lent(number)))
+    }
+
+    /// Whether a slice asks for more than its capacity, so that an admitted case is too large.
+    pub fn asks_too_much(&self) -> bool {
+        self.slices.iter().any(Slice::passes)
+    }
+}

@@ -1,0 +1,95 @@
+//! Lent memory: what document 01 asks of each slice, and what docs/REPLAY.md lends. All lengths are
+//! exact.
+
+use crate::fields::CURVE;
+use crate::Matrix;
+
+/// `short I K`.
+#[derive(Clone, Copy)]
+pub(crate) struct Short {
+    pub slice: usize,
+    pub less: usize,
+}
+
+/// A slice that a case lends.
+pub struct Slice {
+    /// None where a formula has no meaning (m = 0, a layer value outside its range).
+    asked: Option<u128>,
+    capacity: u128,
+    /// Asked by start and stop alone, whatever the lists hold.
+    by_ends: bool,
+}
+
+const SUMS: u128 = 262_144;
+const RECORDS: u128 = 262_144;
+const NEIGHBOUR_ROWS: u128 = 1_024;
+const LONGER: u128 = 3;
+
+fn slice(asked: Option<u128>, capacity: u128) -> Slice {
+    Slice { asked, capacity, by_ends: false }
+}
+
+/// What is asked by the ends of a segment, `less` of its rows not counted.
+pub(crate) fn by_ends(start: usize, stop: usize, less: u128) -> Slice {
+    let asked = (stop as u128).saturating_sub(start as u128).saturating_sub(less);
+    Slice { asked: Some(asked), capacity: CURVE as u128, by_ends: true }
+}
+
+pub(crate) fn curve(length: usize) -> Slice {
+    slice(Some(length as u128), CURVE as u128)
+}
+
+/// "(n+1)*d f64 of room".
+pub(crate) fn sums(matrix: &Matrix) -> Slice {
+    slice(Some((matrix.n as u128 + 1) * matrix.d as u128), SUMS)
+}
+
+/// "n*n u32 and n f64 of room".
+pub(crate) fn ordering(n: usize) -> [Slice; 2] {
+    let n = n as u128;
+    [slice(Some(n * n), NEIGHBOUR_ROWS * NEIGHBOUR_ROWS), slice(Some(n), NEIGHBOUR_ROWS)]
+}
+
+/// "B = max(1, 2*floor((n-1)/m)-1)".
+fn most_nodes(n: usize, m: usize) -> Option<u128> {
+    let floor = (n as i128 - 1).checked_div_euclid(m as i128)?;
+    Some((2 * floor - 1).max(1) as u128)
+}
+
+/// "T the layers' counts summed", "count = 2*ceil(f32(1/v)) - 1".
+fn most_stored(layers: &[f64]) -> Option<u128> {
+    let count = |v: &f64| {
+        let inside = *v >= 1.0 / 4096.0 && *v < 1.0;
+        inside.then(|| 2 * ((1.0 / v) as f32).ceil() as u128 - 1)
+    };
+    layers.iter().map(count).sum()
+}
+
+/// "B nodes, T+B records, (B-1)/2 cuts", in the page's order: records, nodes, cuts.
+pub(crate) fn tree(n: usize, m: usize, layers: &[f64]) -> [Slice; 3] {
+    let nodes = most_nodes(n, m);
+    let records = nodes.and_then(|nodes| Some(most_stored(layers)? + nodes));
+    let cuts = nodes.map(|nodes| (nodes - 1) / 2);
+    [records, nodes, cuts].map(|asked| slice(asked, RECORDS))
+}
+
+impl Slice {
+    /// How many entries are lent, `less` being what `short` says of this slice.
+    pub(crate) fn lent(&self, less: Option<usize>) -> usize {
+        let Some(asked) = self.asked else { return self.capacity as usize };
+        let lent = match less {
+            None if asked <= self.capacity => asked + LONGER,
+            None => self.capacity,
+            Some(less) => asked.saturating_sub(less as u128).min(self.capacity),
+        };
+        lent as usize
+    }
+
+    pub(crate) fn asks_more_than(&self, lent: usize) -> bool {
+        self.asked.is_some_and(|asked| asked > lent as u128)
+    }
+
+    pub(crate) fn passes(&self) -> bool {
+        !self.by_ends && self.asked.is_some_and(|asked| asked > self.capacity)
+    }
+}

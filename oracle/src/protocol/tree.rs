@@ -1,0 +1,74 @@
+//! `tree`.
+
+use crate::text::{all, bits, rows};
+use crate::{fields, room, Fields, Forbidden, Kind, Matrix, Slice};
+
+pub struct Tree {
+    pub matrix: Matrix,
+    pub m: usize,
+    pub threshold: f64,
+    pub forbidden: Forbidden,
+    pub layers: Vec<f64>,
+}
+
+impl Kind for Tree {
+    /// N D M THRESHOLD F LAYERS CELLS
+    fn read(fields: &mut Fields) -> Option<Self> {
+        let size = fields.size()?;
+        let (m, threshold) = (fields.number()?, fields.value()?);
+        let (forbidden, layers) = (fields.forbidden()?, fields.values(fields::LAYERS)?);
+        Some(Tree { matrix: fields.matrix(size)?, m, threshold, forbidden, layers })
+    }
+
+    /// Sums, records, nodes, cuts.
+    fn lends(&self) -> Vec<Slice> {
+        let grown = room::tree(self.matrix.n, self.m, &self.layers);
+        [room::sums(&self.matrix)].into_iter().chain(grown).collect()
+    }
+}
+
+#[derive(Clone, Copy)]
+pub struct Record {
+    pub start: usize,
+    pub stop: usize,
+    pub split: usize,
+    pub gain: f64,
+}
+
+#[derive(Clone, Copy)]
+pub struct Node {
+    pub start: usize,
+    pub stop: usize,
+    pub significant: bool,
+    pub choice: Option<Record>,
+    pub parts: [usize; 2],
+}
+
+/// A grown tree: its nodes in preorder, its sheet, its records in the order stored.
+pub struct Grown {
+    pub nodes: Vec<Node>,
+    pub cuts: Vec<usize>,
+    pub records: Vec<Record>,
+}
+
+impl Tree {
+    pub fn answer(grown: &Grown) -> String {
+        let Grown { nodes, cuts, records } = grown;
+        let nodes = format!(" nodes {}{}", nodes.len(), all(nodes, node));
+        let cuts = format!(" cuts {}{}", cuts.len(), rows(cuts));
+        let records = format!(" records {}{}", records.len(), all(records, record));
+        nodes + &cuts + &records
+    }
+}
+
+fn record(record: Record) -> String {
+    format!("{},{},{},{}", record.start, record.stop, record.split, bits(record.gain))
+}
+
+fn node(node: Node) -> String {
+    let choice = |r: Record| format!("{},{},{},{}", r.split, bits(r.gain), r.start, r.stop);
+    let choice = node.choice.map_or("-".into(), choice);
+    let significant = u8::from(node.significant);
+    let [left, right] = node.parts;
+    format!("{},{},{significant}:{choice}:{left},{right}", node.start, node.stop)
+}

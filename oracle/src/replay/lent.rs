@@ -1,0 +1,60 @@
+//! Memory to lend, filled with a pattern that shows where it was written.
+
+use haspgarnet_changeforest::{owned, Matrix, Node, Settings};
+
+/// None of them is one byte repeated, so that an entry that is shifted shows.
+const VALUE: f64 = -3.25e-200;
+const NUMBER: usize = 0xa5a5_a5a5_dead_beef;
+const PLACE: u32 = 0xdead_beef;
+
+/// So many entries stand behind a lent slice, to show what was written past its end.
+const BEHIND: usize = 3;
+
+pub struct Lent<T> {
+    entries: Vec<T>,
+    length: usize,
+    pattern: T,
+}
+
+impl<T: Copy + PartialEq> Lent<T> {
+    fn filled(length: usize, pattern: T) -> Self {
+        Lent { entries: vec![pattern; length + BEHIND], length, pattern }
+    }
+
+    /// The slice for a call to write in.
+    pub fn slice(&mut self) -> &mut [T] {
+        &mut self.entries[..self.length]
+    }
+
+    /// The first entries.
+    pub fn told(&self, count: usize) -> &[T] {
+        &self.entries[..count.min(self.length)]
+    }
+
+    /// Whether all entries past the first `told` are as they were.
+    pub fn kept_past(&self, told: usize) -> bool {
+        self.entries.iter().skip(told).all(|entry| *entry == self.pattern)
+    }
+}
+
+pub fn values(length: usize) -> Lent<f64> {
+    Lent::filled(length, VALUE)
+}
+
+pub fn numbers(length: usize) -> Lent<usize> {
+    Lent::filled(length, NUMBER)
+}
+
+pub fn places(length: usize) -> Lent<u32> {
+    Lent::filled(length, PLACE)
+}
+
+/// A node with a choice, from a tree that is cut, with ends and parts that no tree has.
+pub fn nodes(length: usize) -> Lent<Node> {
+    let readings = Matrix { cells: &[0.0, 0.0, 8.0], rows: 3, columns: 1 };
+    let settings = Settings { m: 1, threshold: 0.0, ..Settings::default() };
+    let grown = owned::tree(readings, &settings).map(|tree| tree.nodes);
+    let mut node = grown.unwrap_or_default().first().copied().unwrap_or_default();
+    (node.start, node.stop, node.left, node.right) = (NUMBER, NUMBER - 1, NUMBER - 2, NUMBER - 3);
+    Lent::filled(length, node)
+}

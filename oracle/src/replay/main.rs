@@ -1,0 +1,56 @@
+//! replay: answers each case of standard input (docs/REPLAY.md) through the functions that hosts
+//! call. What is told of a case is what the library answers; nothing is judged here. A kind's calls
+//! stand in one of these files, beside the file of that name in ../protocol.
+
+mod curves;
+mod lengths;
+mod lent;
+mod mean;
+mod neighbours;
+mod outcome;
+mod tree;
+mod two_step;
+
+use outcome::Outcome;
+use protocol::{Case, Line};
+use std::io::{stdin, stdout, BufRead, BufWriter, Result, Write};
+
+/// A kind of case that can be called: lends what the line says, calls, and tells what came of it.
+trait Call {
+    fn call(&self, line: &Line) -> Outcome;
+}
+
+fn called(line: &Line) -> Outcome {
+    match &line.case {
+        Case::Rel(case) => case.call(line),
+        Case::F32(case) => case.call(line),
+        Case::Cand(case) => case.call(line),
+        Case::Gain(case) => case.call(line),
+        Case::Search(case) => case.call(line),
+        Case::Tree(case) => case.call(line),
+        Case::Order(case) => case.call(line),
+        Case::Knn(case) => case.call(line),
+        Case::Curve(case) => case.call(line),
+        Case::Pick(case) => case.call(line),
+        Case::Guesses(case) => case.call(line),
+        Case::Perm(case) => case.call(line),
+    }
+}
+
+fn answer(line: &[u8]) -> String {
+    match Line::read(line) {
+        None => "unknown".into(),
+        Some(line) if line.too_large => outcome::TOO_LARGE.into(),
+        Some(line) => called(&line).answer(&line),
+    }
+}
+
+fn main() -> Result<()> {
+    let (mut input, mut output) = (stdin().lock(), BufWriter::new(stdout().lock()));
+    let mut line = vec![];
+    while input.read_until(b'\n', &mut line)? > 0 {
+        writeln!(output, "{}", answer(&line))?;
+        line.clear();
+    }
+    output.flush()
+}

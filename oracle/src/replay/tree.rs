@@ -1,0 +1,110 @@
+use crate::lent::{nodes, numbers, values, Lent};
+use crate::mean::{as_gain_leaves, matrix, sums_of};
+use crate::outcome::agree;
+use crate::{Call, Outcome};
+use haspgarnet_changeforest::lent::TreeRoom;
+use haspgarnet_changeforest::{lent, owned, Counts, Node, Settings};
+use protocol::{Grown, Line, Record, Tree};
+
+struct Room {
+    sums: Lent<f64>,
+    rows: Lent<usize>,
+    gains: Lent<f64>,
+    nodes: Lent<Node>,
+    cuts: Lent<usize>,
+}
+
+impl Room {
+    /// A record is three rows and a gain.
+    fn of(line: &Line) -> Room {
+        Room {
+            sums: values(line.lent(1)),
+            rows: numbers(3 * line.lent(2)),
+            gains: values(line.lent(2)),
+            nodes: nodes(line.lent(3)),
+            cuts: numbers(line.lent(4)),
+        }
+    }
+
+    fn lend(&mut self) -> TreeRoom<'_> {
+        TreeRoom {
+            sums: self.sums.slice(),
+            rows: self.rows.slice(),
+            gains: self.gains.slice(),
+            nodes: self.nodes.slice(),
+            cuts: self.cuts.slice(),
+        }
+    }
+
+    fn kept_past(&self, sums: usize, records: usize, nodes: usize, cuts: usize) -> bool {
+        self.sums.kept_past(sums)
+            && self.rows.kept_past(3 * records)
+            && self.gains.kept_past(records)
+            && self.nodes.kept_past(nodes)
+            && self.cuts.kept_past(cuts)
+    }
+
+    fn grown(&self, counts: Counts) -> Grown {
+        let (rows, gains) = (self.rows.told(3 * counts.records), self.gains.told(counts.records));
+        let record = |(row, gain): (&[usize], &f64)| Record {
+            start: row[0],
+            stop: row[1],
+            split: row[2],
+            gain: *gain,
+        };
+        Grown {
+            nodes: self.nodes.told(counts.nodes).iter().map(node).collect(),
+            cuts: self.cuts.told(counts.cuts).to_vec(),
+            records: rows.chunks_exact(3).zip(gains).map(record).collect(),
+        }
+    }
+}
+
+fn record(record: &haspgarnet_changeforest::Record) -> Record {
+    Record { start: record.start, stop: record.stop, split: record.split, gain: record.gain }
+}
+
+fn node(node: &Node) -> protocol::Node {
+    protocol::Node {
+        start: node.start,
+        stop: node.stop,
+        significant: node.significant,
+        choice: node.choice().as_ref().map(record),
+        parts: [node.left, node.right],
+    }
+}
+
+fn owned_grown(tree: haspgarnet_changeforest::Tree) -> Grown {
+    Grown {
+        nodes: tree.nodes.iter().map(node).collect(),
+        cuts: tree.cuts,
+        records: tree.records.iter().map(record).collect(),
+    }
+}
+
+impl Call for Tree {
+    fn call(&self, line: &Line) -> Outcome {
+        let readings = matrix(&self.matrix);
+        let settings = Settings {
+            m: self.m,
+            threshold: self.threshold,
+            forbidden: self.forbidden.as_deref(),
+            layers: &self.layers,
+            ..Settings::default()
+        };
+        let mut room = Room::of(line);
+        let counts = lent::tree(readings, &settings, room.lend());
+        let kept = match counts {
+            Err(_) => room.kept_past(0, 0, 0, 0),
+            Ok(told) => {
+                let sums = sums_of(&readings);
+                as_gain_leaves(readings, room.sums.told(sums))
+                    && room.kept_past(sums, told.records, told.nodes, told.cuts)
+            }
+        };
+        let told = counts.map(|counts| Tree::answer(&room.grown(counts)));
+        let owned = owned::tree(readings, &settings);
+        let owned = owned.map(|tree| Tree::answer(&owned_grown(tree)));
+        Outcome { kept, agrees: agree(told.clone(), owned), told }
+    }
+}

@@ -1,0 +1,84 @@
+//! What a call answers. None of these can be built or taken apart field by field outside this crate: a later field breaks no caller.
+
+/// A split and its gain.
+#[derive(Clone, Copy, Debug, PartialEq)]
+#[non_exhaustive]
+pub struct Split {
+    pub split: usize,
+    pub gain: f64,
+}
+
+/// The best split of `[start, stop)` and its gain.
+#[derive(Clone, Copy, Debug, Default, PartialEq)]
+#[non_exhaustive]
+#[repr(C)]
+pub struct Record {
+    pub start: usize,
+    pub stop: usize,
+    pub split: usize,
+    pub gain: f64,
+}
+
+/// A segment of the tree: whether it is cut, its choice, and the places of its parts (0 and 0 where it is not cut).
+#[derive(Clone, Copy, Debug, Default, PartialEq)]
+#[non_exhaustive]
+#[repr(C)]
+pub struct Node {
+    pub start: usize,
+    pub stop: usize,
+    pub significant: bool,
+    has_choice: bool,
+    choice: Record,
+    pub left: usize,
+    pub right: usize,
+}
+
+const _: () = assert!(std::mem::size_of::<Node>() == 72);
+
+impl Node {
+    /// The record that decides over the segment; it may carry the ends of a seeded segment inside it.
+    pub fn choice(&self) -> Option<Record> {
+        self.has_choice.then_some(self.choice)
+    }
+}
+
+/// How many nodes, records and cuts a tree has.
+#[derive(Clone, Copy, Debug, PartialEq, Eq)]
+#[non_exhaustive]
+pub struct Counts {
+    pub nodes: usize,
+    pub records: usize,
+    pub cuts: usize,
+}
+
+/// The tree of a run: its nodes in preorder, the rows that are cut from left to right, and the records, those of the seeded segments
+/// first.
+#[derive(Clone, Debug, PartialEq)]
+#[non_exhaustive]
+pub struct Tree {
+    pub nodes: Vec<Node>,
+    pub cuts: Vec<usize>,
+    pub records: Vec<Record>,
+}
+
+/// One to three guesses, ascending.
+#[derive(Clone, Copy, Debug, PartialEq, Eq)]
+pub struct Guesses {
+    pub(crate) rows: [usize; 3],
+    pub(crate) count: usize,
+}
+
+impl Guesses {
+    pub fn rows(&self) -> &[usize] {
+        &self.rows[..self.count.min(3)]
+    }
+}
+
+/// What a permutation test found.
+#[derive(Clone, Copy, Debug, PartialEq)]
+#[non_exhaustive]
+pub struct Tested {
+    pub counter: usize,
+    pub p_value: f64,
+    pub significant: bool,
+}

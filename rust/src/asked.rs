@@ -1,0 +1,57 @@
+//! What a call is asked: the readings, the settings, the curves. Any values are allowed here; the call judges them. A field that is not
+//! given has a default that changes nothing, or one that is refused where it is read: so a later field breaks no caller who ends in
+//! `..Settings::default()`.
+
+/// Readings, row after row. Judged by refusal 1: 1 to 4,096 rows (1,024 where neighbours are ordered), 1 to 64 columns, and
+/// `rows * columns` cells.
+#[derive(Clone, Copy, Debug, Default, PartialEq)]
+pub struct Matrix<'a> {
+    pub cells: &'a [f64],
+    pub rows: usize,
+    pub columns: usize,
+}
+
+/// How a run is searched. A call reads the fields that its own page names and looks at no other.
+#[derive(Clone, Copy, Debug, PartialEq)]
+pub struct Settings<'a> {
+    /// The least length of a part, 1 to 4,096. It must be given: the default, 0, is refused by 2.
+    pub m: usize,
+    /// A segment is cut where its gain exceeds this. It must be given: the default, NaN, is refused by 3.
+    pub threshold: f64,
+    /// A share of permutations of at most this is significant; strictly between 0 and 1. It must be given: the default, NaN, is refused
+    /// by 3.
+    pub alpha: f64,
+    /// Pairs a, b, one after another: the rows a < x <= b are barred. `None`, the default, is the same as an empty list, except to
+    /// [`guesses`](crate::lent::guesses).
+    pub forbidden: Option<&'a [usize]>,
+    /// The layers' values, at most 64, each in `[1/4096, 1)`. None by default: no segments are seeded.
+    pub layers: &'a [f64],
+}
+
+impl Default for Settings<'_> {
+    fn default() -> Self {
+        Settings { m: 0, threshold: f64::NAN, alpha: f64::NAN, forbidden: None, layers: &[] }
+    }
+}
+
+impl<'a> Settings<'a> {
+    /// The forbidden list, for a call to which not given is empty.
+    pub(crate) fn barred(&self) -> &'a [usize] {
+        self.forbidden.unwrap_or(&[])
+    }
+}
+
+/// Up to three curves of deltas with their bases; of these the first `count` are looked at.
+#[derive(Clone, Copy, Debug, Default, PartialEq)]
+pub struct Curves<'a> {
+    pub deltas: [&'a [f64]; 3],
+    pub bases: [f64; 3],
+    pub count: usize,
+}
+
+/// `count` permutations of the places of a curve, permutation after permutation.
+#[derive(Clone, Copy, Debug, Default, PartialEq, Eq)]
+pub struct Permutations<'a> {
+    pub entries: &'a [usize],
+    pub count: usize,
+}

@@ -1,0 +1,115 @@
+//! Seeded segments and the tree of a run.
+use std::thread;
+
+use crate::refusal::unless;
+use crate::{ffi, Counts, Matrix, Node, Refusal, Settings};
+
+/// The memory that seeded segments are searched in. With T the layers' segments summed: sums `(rows + 1) * columns`, rows `3 * T`,
+/// gains T.
+#[derive(Debug, Default)]
+pub struct SegmentsRoom<'a> {
+    /// Takes the prefix sums.
+    pub sums: &'a mut [f64],
+    /// Start, stop and best split of each record, three entries a record.
+    pub rows: &'a mut [usize],
+    /// The gain of each record.
+    pub gains: &'a mut [f64],
+}
+
+/// The records of the seeded segments of all layers; how many. Reads m, forbidden and layers. Refusals: 1, 2, 4, 5, 6, 7.
+pub fn seeded_segments(matrix: Matrix, settings: &Settings, room: SegmentsRoom) -> Result<usize, Refusal> {
+    let (barred, layers) = (settings.barred(), settings.layers);
+    let mut count = 0;
+    let no = unsafe {
+        ffi::changeforest_seeded_segments(
+            matrix.cells.as_ptr(),
+            matrix.cells.len(),
+            matrix.rows,
+            matrix.columns,
+            settings.m,
+            barred.as_ptr(),
+            barred.len(),
+            layers.as_ptr(),
+            layers.len(),
+            room.sums.as_mut_ptr(),
+            room.sums.len(),
+            room.rows.as_mut_ptr(),
+            room.rows.len(),
+            room.gains.as_mut_ptr(),
+            room.gains.len(),
+            &mut count,
+        )
+    };
+    unless(no, count)
+}
+
+/// The memory that a tree is grown in. With T as in [`SegmentsRoom`] and B the greater of 1 and `2 * floor((rows - 1) / m) - 1`:
+/// sums `(rows + 1) * columns`, rows `3 * (T + B)`, gains `T + B`, nodes B, cuts `(B - 1) / 2`.
+#[derive(Debug, Default)]
+pub struct TreeRoom<'a> {
+    /// Takes the prefix sums.
+    pub sums: &'a mut [f64],
+    /// Start, stop and best split of each record, three entries a record; those of the seeded segments first.
+    pub rows: &'a mut [usize],
+    /// The gain of each record.
+    pub gains: &'a mut [f64],
+    /// The nodes in preorder.
+    pub nodes: &'a mut [Node],
+    /// The rows that are cut, from left to right.
+    pub cuts: &'a mut [usize],
+}
+
+/// The tree of the run: how many nodes, records and cuts it has. Reads m, threshold, forbidden and layers. A tree that can be deep is
+/// grown on a thread of its own. Refusals: 1, 2, 3 (threshold), 4, 5, 6, 7.
+pub fn tree(matrix: Matrix, settings: &Settings, room: TreeRoom) -> Result<Counts, Refusal> {
+    let (barred, layers) = (settings.barred(), settings.layers);
+    let mut counts = [0; 3];
+    let no = grown(matrix.rows, settings.m, || unsafe {
+        ffi::changeforest_tree(
+            matrix.cells.as_ptr(),
+            matrix.cells.len(),
+            matrix.rows,
+            matrix.columns,
+            settings.m,
+            settings.threshold,
+            barred.as_ptr(),
+            barred.len(),
+            layers.as_ptr(),
+            layers.len(),
+            room.sums.as_mut_ptr(),
+            room.sums.len(),
+            room.rows.as_mut_ptr(),
+            room.rows.len(),
+            room.gains.as_mut_ptr(),
+            room.gains.len(),
+            room.nodes.as_mut_ptr(),
+            room.nodes.len(),
+            room.cuts.as_mut_ptr(),
+            room.cuts.len(),
+            counts.as_mut_ptr(),
+            counts.len(),
+        )
+    });
+    let [nodes, records, cuts] = counts;
+    unless(no, Counts { nodes, records, cuts })
+}
+
+/// The header's bounds on the stack that a tree takes: for each level, and besides.
+const LEVEL: usize = 1 << 10;
+const BESIDES: usize = 1 << 16;
+
+/// Trees of at most so many levels are grown on the caller's stack.
+const SHALLOW: usize = 128;
+
+/// The call, on a thread with stack enough where the tree can be deep.
+fn grown<T: Send>(rows: usize, m: usize, call: impl FnOnce() -> T + Send) -> T {
+    let levels = rows.min(4096) / m.max(1) + 1;
+    if levels <= SHALLOW {
+        return call();
+    }
+    let builder = thread::Builder::new().stack_size(levels * LEVEL + BESIDES);
+    thread::scope(|scope| {
+        let thread = builder.spawn_scoped(scope, call).expect("a thread for a deep tree");
+        thread.join().expect("the library does not panic")
+    })
+}
