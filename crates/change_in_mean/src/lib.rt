@@ -1,4 +1,4 @@
-// Prefix sums of a matrix, row after row, and the gain of a split from them. After gain/change_in_mean.rs.
+// Prefix sums of a matrix, row after row, and the gain of a split from them. Inside the library. After gain/change_in_mean.rs.
 use rows::Position;
 ghost use mathlib.Core.Path.{_≡_};
 ghost use mathlib.Core.List.{_++_};

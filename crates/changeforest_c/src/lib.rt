@@ -1,4 +1,4 @@
-// The entry points for C and Rust hosts: thin exports over `changeforest`. Each answers 0 or the number of a refusal; what it finds is
+// The entry points for C and Rust hosts: thin exports over the crates `entry_..`. Each answers 0 or the number of a refusal; what it finds is
 // stored through the last arguments, which a refusal leaves as they were, like every lent slice. A slice is a pointer and a length in
 // entries.
 pub mod curves;

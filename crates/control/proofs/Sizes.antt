@@ -1,15 +1,16 @@
 -- What holds where a size is not refused, and how firstOf goes on. Assumes nothing.
-use mathlib.Core.Path.{_≡_, refl, sym, _∙_, ap}
+use mathlib.Core.Path.{_≡_, refl}
 use mathlib.Core.Bool.{Bool, true, false, not, _||_, true≢false}
 use mathlib.Core.List.{List, [], _∷_}
-use Prim.Native.Nat.{ℕ, zero, suc, _+_, _*_, _≤_, _<_}
+use Prim.Native.Nat.{ℕ, zero, suc, _*_, _^_, _≤_}
 use native.Mathlib.Nat.{mul-le-mul}
 use native.Mathlib.Omega.{arith}
 use borrow.Author.Tests.{ltb-false, eqb-true, not-false}
-use lib.Dec.{ltb, eqb}
-use lib.Ieee.{Float}
+use lib.Dec.{T, ltb, eqb, le→leb}
+use lib.IntN.{pos}
+use lib.Ieee.{Float, inFloat, binary64}
 use lib.ListN.{length}
-use Rattle.scope.specs.Refusals.{Test, test, firstOf, Answer, refused, given, unless, toldUnless, outside, wrongMatrix, wrongSegment, wrongSplit}
+use Rattle.scope.specs.Refusals.{Test, test, firstOf, refused, unless, toldUnless, outside, wrongMatrix, wrongSegment, wrongSplit}
 
 pub product-small : (n d : ℕ) → n ≤ 4097 → d ≤ 64 → n * d ≤ 262208
 product-small n d a b = mul-le-mul a b
@@ -59,3 +60,8 @@ unless-refused (suc k) a h = refl
 pub told-nothing : {A : Type 0} (k : ℕ) (l : List A) → (k ≡ 0 → ⊥) → toldUnless k l ≡ []
 told-nothing zero l h = absurd (h refl)
 told-nothing (suc k) l h = refl
+
+-- a whole number that is small is a float
+pub small : (n : ℕ) → n ≤ 4096 → T (inFloat binary64 (pos n))
+unfolding inFloat
+small n h = le→leb n (2 ^ 53) (omega arith)

@@ -1,4 +1,5 @@
 // Gain curves from likelihoods, and the permutation test of their maximum.
+// Entry points: whatever is passed in, each ends with an answer or with the number of a refusal, which has changed no lent memory. None has a `requires`.
 use control::Shortest;
 ghost use mathlib.Core.Path.{_≡_};
 ghost use mathlib.Core.List.{[], _∷_};

@@ -1,4 +1,5 @@
 // From matrix to search: candidates, the gain of a split, the best split.
+// Entry points: whatever is passed in, each ends with an answer or with the number of a refusal, which has changed no lent memory. None has a `requires`.
 use control::Shortest;
 use optimizer::candidates;
 use optimizer::optimizer_result::BestSplit;

@@ -1,13 +1,12 @@
 -- What holds where a call is not refused. Assumes nothing.
-use mathlib.Core.Path.{_≡_, refl, sym}
+use mathlib.Core.Path.{_≡_, sym}
 use mathlib.Core.Bool.{false}
-use mathlib.Core.List.{List, [], _∷_}
-use Prim.Native.Nat.{ℕ, zero, suc, _-_, _*_, _≤_, _<_}
+use mathlib.Core.List.{[], _∷_}
+use Prim.Native.Nat.{_-_, _*_, _≤_, _<_}
 use native.Mathlib.Omega.{arith}
 use borrow.Author.Tests.{ltb-false, eqb-false, not-false}
 use Rattle.scope.specs.Floats.{isFinite}
-use Rattle.scope.specs.Lists.{holding, every}
-use Rattle.scope.specs.Refusals.{toldUnless}
+use Rattle.scope.specs.Lists.{every}
 use Rattle.scope.specs.Calls.{OrderingAsked, orderingTests, orderingRefusal, PredictAsked, predictTests, predictRefusal}
 use Rattle.control.proofs.Sizes.{matrix, segment}
 use Rattle.control.proofs.Clean.{passed, answers}
@@ -50,12 +49,3 @@ predict-clean a e =
       some-rows = omega arith;
       within = seg .1;
     }
-
--- ---- what a lent slice holds: as it was where a number is answered, else what is told
-pub kept : {A : Type 0} (k : ℕ) (told before : List A) → (k ≡ 0 → ⊥) → before ≡ holding (toldUnless k told) before
-kept zero told before h = absurd (h refl)
-kept (suc k) told before h = refl
-
-pub held : {A : Type 0} (k : ℕ) (told before : List A) {after : List A} → k ≡ 0 → after ≡ holding told before → after ≡ holding (toldUnless k told) before
-held zero told before z h = h
-held (suc k) told before z h = absurd (omega arith)

@@ -1,4 +1,5 @@
 // Stored records: the searches of the seeded segments.
+// Entry points: whatever is passed in, each ends with an answer or with the number of a refusal, which has changed no lent memory. None has a `requires`.
 use control::Shortest;
 use entry_mean::Count;
 ghost use Rattle.control.specs.Settings.{shortestOf};

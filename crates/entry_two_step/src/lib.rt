@@ -1,4 +1,5 @@
 // The first step of a two-step search: guesses, and the pick from a lent gain curve.
+// Entry points: whatever is passed in, each ends with an answer or with the number of a refusal, which has changed no lent memory. None has a `requires`.
 use control::Shortest;
 use optimizer::optimizer_result::BestSplit;
 use rows::Position;

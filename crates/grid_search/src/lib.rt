@@ -1,4 +1,4 @@
-// The search over the candidates of a segment. After optimizer/grid_search.rs.
+// The search over the candidates of a segment. Inside the library. After optimizer/grid_search.rs.
 use control::Shortest;
 use optimizer::candidates;
 use optimizer::optimizer_result::BestSplit;

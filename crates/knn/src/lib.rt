@@ -1,4 +1,5 @@
 // k nearest neighbours: each row's order of all rows by squared distance, and the share of a row's k nearest that stand at or past a split.
+// Inside the library. After classifier/knn.rs.
 use order::order_row;
 use rounding::whole_root;
 use rows::Offset;

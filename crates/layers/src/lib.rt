@@ -1,4 +1,4 @@
-// The layers of seeded segments: how many segments a layer has, and where each starts and stops. After segmentation.rs.
+// The layers of seeded segments: how many segments a layer has, and where each starts and stops. Inside the library. After segmentation.rs.
 use rows::Position;
 ghost use mathlib.Core.Path.{_≡_};
 ghost use mathlib.Core.Bool.{true, false};

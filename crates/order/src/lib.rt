@@ -1,4 +1,5 @@
 // One row's order: all rows by distance, equal ones by lower index. A stable merge sort; it works in as much room again as it fills.
+// Inside the library. After classifier/knn.rs, which leaves the order of equal ones open.
 ghost use mathlib.Core.Path.{_≡_};
 ghost use mathlib.Core.Bool.{cond};
 ghost use Prim.Native.Nat.{_+_, _<_, _≤_};

@@ -1,4 +1,5 @@
-// The seeded segments, searched beforehand: their records, in order, in lent memory. After segmentation.rs, "SBS"; no layers means "BS".
+// The seeded segments, searched beforehand: their records, in order, in lent memory. Inside the library.
+// After segmentation.rs, "SBS"; no layers means "BS".
 use control::Shortest;
 use layers::Layer;
 use layers::Segment;

@@ -1,4 +1,4 @@
-// The pick of a split from a lent gain curve, and the guesses that curves are made from. After optimizer/two_step_search.rs.
+// The pick of a split from a lent gain curve, and the guesses that curves are made from. Inside the library. After optimizer/two_step_search.rs.
 use control::Shortest;
 use optimizer::candidates;
 use optimizer::optimizer_result::GainRecord;

@@ -7,7 +7,8 @@ use denote.Ref.{now}
 use lib.ListN.{length}
 use lib.Ieee.{ofBits}
 use Rattle.scope.specs.Gain.{innerGain, gainOf}
-use Rattle.change_in_mean.proofs.Cumsum.{row-in, small}
+use Rattle.change_in_mean.proofs.Cumsum.{row-in}
+use Rattle.control.proofs.Sizes.{small}
 use borrow.Author.Needs.{needs}
 use Rattle.change_in_mean.proofs.gain.Statement.{statement}
 use Rattle.change_in_mean.proofs.gain.Tie as tie

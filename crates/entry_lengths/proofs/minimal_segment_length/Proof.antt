@@ -11,7 +11,7 @@ use Rattle.scope.specs.Rounding.{minimalLength}
 use Rattle.scope.specs.Calls.{lengthAnswer}
 use Rattle.scope.proofs.Members.{first-of, second-of}
 use Rattle.control.proofs.Sizes.{inside}
-use Rattle.change_in_mean.proofs.Cumsum.{small}
+use Rattle.control.proofs.Sizes.{small}
 use Rattle.rounding.proofs.Relative.{minimalLength-range}
 use Rattle.entry_lengths.specs.Answers.{lengthOf}
 use borrow.Author.Needs.{needs}

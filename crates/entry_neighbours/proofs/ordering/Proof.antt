@@ -1,9 +1,10 @@
 -- `ordering` meets its contract: a number, and nothing is told; or 0, with the orders and the last distances.
-use mathlib.Core.Path.{_≡_, sym, _∙_}
+use mathlib.Core.Path.{_≡_, sym, _∙_, refl}
 use denote.Ref.{now}
 use Rattle.scope.specs.Calls.{OrderingAsked, orderingRefusal, ordersOf, lastDistances, orderingCall}
 use Rattle.entry_neighbours.specs.Left.{orderingAsked}
-use Rattle.entry_neighbours.proofs.Clean.{ordering-clean, kept, held}
+use Rattle.control.proofs.Follows.{held-refused, held-given}
+use Rattle.entry_neighbours.proofs.Clean.{ordering-clean}
 use borrow.Author.Needs.{needs}
 use Rattle.entry_neighbours.proofs.ordering.Statement.{statement}
 use Rattle.entry_neighbours.proofs.ordering.Tie as tie
@@ -25,8 +26,8 @@ returns c =
     let some : orderingRefusal q ≡ 0 → ⊥ = λ z. c .if1 .taken (no .ensures ∙ z) in
     record {
       answer = no .ensures;
-      ordering = kept (orderingRefusal q) (ordersOf (q .matrix)) (now (a .ordering)) some;
-      distances = kept (orderingRefusal q) (lastDistances (q .matrix)) (now (a .distances)) some;
+      ordering = held-refused refl some (λ l. l) (ordersOf (q .matrix)) (now (a .ordering)) refl;
+      distances = held-refused refl some (λ l. l) (lastDistances (q .matrix)) (now (a .distances)) refl;
     }
 
 calculate-ordering-requires : tie.Need-calculate-ordering-requires
@@ -42,8 +43,8 @@ returns-2 c =
     let f = c .before .before .before .before .calculate-ordering .ensures in
     record {
       answer = sym none;
-      ordering = held (orderingRefusal q) (ordersOf (q .matrix)) (now (a .ordering)) none (f .0);
-      distances = held (orderingRefusal q) (lastDistances (q .matrix)) (now (a .distances)) none (f .1);
+      ordering = held-given refl none (λ l. l) (ordersOf (q .matrix)) (now (a .ordering)) (f .0);
+      distances = held-given refl none (λ l. l) (lastDistances (q .matrix)) (now (a .distances)) (f .1);
     }
 
 pub ordering-spec : {M : Type 1} → statement M

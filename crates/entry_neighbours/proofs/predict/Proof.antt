@@ -1,10 +1,11 @@
 -- `predict` meets its contract: a number, and nothing is told; or 0, with the orders, the last distances and the predictions.
-use mathlib.Core.Path.{_≡_, sym, _∙_}
+use mathlib.Core.Path.{_≡_, sym, _∙_, refl}
 use denote.Ref.{now}
 use Rattle.scope.specs.Calls.{PredictAsked, predictRefusal, ordersOf, lastDistances, predictionsOf, predictCall}
 use Rattle.knn.proofs.Distances.{filled}
 use Rattle.entry_neighbours.specs.Left.{predictAsked}
-use Rattle.entry_neighbours.proofs.Clean.{PredictClean, predict-clean, kept, held}
+use Rattle.control.proofs.Follows.{held-refused, held-given}
+use Rattle.entry_neighbours.proofs.Clean.{PredictClean, predict-clean}
 use borrow.Author.Needs.{needs}
 use Rattle.entry_neighbours.proofs.predict.Statement.{statement}
 use Rattle.entry_neighbours.proofs.predict.Tie as tie
@@ -31,9 +32,9 @@ returns c =
     let some : predictRefusal q ≡ 0 → ⊥ = λ z. c .if1 .taken (no .ensures ∙ z) in
     record {
       answer = no .ensures;
-      ordering = kept (predictRefusal q) (ordersOf (q .order .matrix)) (now (a .ordering)) some;
-      distances = kept (predictRefusal q) (lastDistances (q .order .matrix)) (now (a .distances)) some;
-      predictions = kept (predictRefusal q) (predictionsOf q) (now (a .predictions)) some;
+      ordering = held-refused refl some (λ l. l) (ordersOf (q .order .matrix)) (now (a .ordering)) refl;
+      distances = held-refused refl some (λ l. l) (lastDistances (q .order .matrix)) (now (a .distances)) refl;
+      predictions = held-refused refl some (λ l. l) (predictionsOf q) (now (a .predictions)) refl;
     }
 
 calculate-ordering-requires : tie.Need-calculate-ordering-requires
@@ -55,9 +56,9 @@ returns-2 c =
     let f = c .before .before .before .before .before .before .before .before .before .calculate-ordering .ensures in
     record {
       answer = sym none;
-      ordering = held (predictRefusal q) (ordersOf (q .order .matrix)) (now (a .ordering)) none (f .0);
-      distances = held (predictRefusal q) (lastDistances (q .order .matrix)) (now (a .distances)) none (f .1);
-      predictions = held (predictRefusal q) (predictionsOf q) (now (a .predictions)) none (c .before .before .predict .ensures);
+      ordering = held-given refl none (λ l. l) (ordersOf (q .order .matrix)) (now (a .ordering)) (f .0);
+      distances = held-given refl none (λ l. l) (lastDistances (q .order .matrix)) (now (a .distances)) (f .1);
+      predictions = held-given refl none (λ l. l) (predictionsOf q) (now (a .predictions)) (c .before .before .predict .ensures);
     }
 
 pub predict-spec : {M : Type 1} → statement M

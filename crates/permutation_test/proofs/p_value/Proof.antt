@@ -1,6 +1,6 @@
 -- `p_value` meets its contract: both counts are small enough to be floats.
 use native.Mathlib.Omega.{arith}
-use Rattle.change_in_mean.proofs.Cumsum.{small}
+use Rattle.control.proofs.Sizes.{small}
 use borrow.Author.Needs.{needs}
 use Rattle.permutation_test.proofs.p_value.Statement.{statement}
 use Rattle.permutation_test.proofs.p_value.Tie as tie
