@@ -22,13 +22,14 @@ use Rattle.stored.proofs.Flat.{records-told}
 use Rattle.demand.proofs.Demand.{demand, records-fit}
 use Rattle.line.specs.declared.Given.{Given}
 use Rattle.deck.specs.Limits.{givenRefusal}
-use Rattle.answers.specs.Answered.{matrixHeld, settingsHeld, runHeld, lent, treeNumber, Grew, givenText, sheetOf}
+use Rattle.sheet_text.specs.Lines.{sheetOf}
+use Rattle.sheet_text.proofs.Lookup.{lines-are}
+use Rattle.answers.specs.Answered.{matrixHeld, settingsHeld, runHeld, lent, treeNumber, Grew, givenText}
 use Rattle.entry_tree.specs.Answers.{grownOf}
 use Rattle.entry_tree.specs.Left.{PointSlices, PointsLeft}
 use Rattle.entry_tree.specs.declared.Grown.{Grown}
 use Rattle.entry_tree.specs.declared.Grown.the-variants as grown
 use Rattle.binary_segmentation.specs.declared.tree.Counts.{Counts as Counted}
-use Rattle.answers.proofs.Lookup.{lines-are}
 
 -- what the call for the tree ensures, in the room that the types give, is what `Grew` says
 module _ (g : Given) (cells : List Float) (forbidden : List ℕ) (threshold : Float) (is : threshold ≡ ofBits binary64 (g .threshold)) (before after : PointSlices) (r : Grown)

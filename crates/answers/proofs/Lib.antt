@@ -1,6 +1,4 @@
 -- The laws that belong to no one function.
-pub mod Lookup
-pub mod Looked
 pub mod Limits
 pub mod Grown
 pub mod Said

@@ -7,7 +7,6 @@ use lib.ListN.{length, take}
 use Rattle.scope.specs.Lists.{holding}
 use Rattle.scope.specs.Asked.{Matrix, Settings}
 use Rattle.scope.specs.Refusals.{unless, toldUnless}
-use Rattle.scope.specs.Grid.{Record}
 use Rattle.scope.specs.Text.{bytes, decimal, line}
 use Rattle.scope.specs.Tree.{Run, treeOf, recordsOf, sheet}
 use Rattle.scope.specs.Calls.{Room, runOf, countsOf, treeRefusal}
@@ -17,7 +16,6 @@ use Rattle.line.specs.declared.Given.{Given}
 use Rattle.deck.specs.declared.Read.{Read}
 use Rattle.deck.specs.Meaning.{Says}
 use Rattle.deck.specs.Limits.{givenRefusal}
-use Rattle.answers.specs.Lines.{linesOf}
 use Rattle.entry_tree.specs.Answers.{grownOf, nodeRoom}
 use Rattle.entry_tree.specs.declared.Grown.{Grown}
 
@@ -57,10 +55,6 @@ givenText g cells forbidden = judgedText (orElse (givenRefusal g forbidden) (tre
 abbrev pub readText : Read → List Float → List ℕ → List ℕ
 readText (Read.Bad k) cells forbidden = line (bytes "bad" ∷ decimal k ∷ [])
 readText (Read.Deck g) cells forbidden = givenText g cells forbidden
-
--- the sheet, from counts, records and the rows that are cut
-abbrev pub sheetOf : ℕ → List Record → List ℕ → List ℕ
-sheetOf nodes rs xs = line (bytes "cuts" ∷ decimal (length xs) ∷ []) ++ linesOf rs xs ++ line (bytes "nodes" ∷ decimal nodes ∷ [])
 
 -- A text is right for a reading if it is the program's text for whichever input was read so, into slices that have room.
 abbrev pub Said : Read → List Float → List ℕ → List ℕ → Type 0

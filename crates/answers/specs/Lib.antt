@@ -1,3 +1,2 @@
 -- The definitions that the contracts of `answers` cite.
-pub mod Lines
 pub mod Answered

@@ -1,7 +1,5 @@
 // The program's answer to a reading: the text of its output, into lent memory. Inside the library.
 // specs/Answered.antt says what is written, and proofs/Said.antt that it is the program's text for whichever input was read. The room is in the types.
-mod sheet;
-
 use control::Settings;
 use control::Shortest;
 use deck::Read;
@@ -74,7 +72,7 @@ fn answer_deck(
     }
     match grow(deck, cells, forbidden, sums, rows, gains, cuts) {
         Grown::Refused(number) => report::put_refused(out, 0, number),
-        Grown::Counted(counts) => sheet::put_sheet(out, counts, rows, gains, cuts),
+        Grown::Counted(counts) => sheet_text::put_sheet(out, counts, rows, gains, cuts),
     }
 }
 

@@ -1,20 +1,15 @@
--- The plain data that the walks pass and hold. Assumes nothing.
+-- The plain data that the walks pass and hold besides nodes. Assumes nothing.
 use Prim.Native.Nat.{ℕ}
 use denote.Struct.Laws as LL
 use denote.Enum.Laws as EL
 use Rattle.lent.proofs.Data.{Datum, Fit, word, of-struct, of-enum}
 use Rattle.optimizer.specs.declared.optimizer_result.GainRecord.{GainRecord}
-use Rattle.binary_segmentation.specs.declared.node.Node.{Node}
+use Rattle.node.specs.declared.Node.{Node}
 use Rattle.binary_segmentation.specs.declared.tree.Counts.{Counts}
 use Rattle.binary_segmentation.specs.declared.tree.Judged.the-variants.{Uncut, Cut}
 use Rattle.control.specs.declared.Settings.{Settings}
 use Rattle.binary_segmentation.specs.declared.tree.Asked.{Asked}
-use Rattle.rows.proofs.Position as position′
-use Rattle.rows.proofs.Position.Laws as position″
-use Rattle.optimizer.proofs.optimizer_result.GainRecord as record′
-use Rattle.optimizer.proofs.optimizer_result.GainRecord.Laws as record″
-use Rattle.binary_segmentation.proofs.node.Node as node′
-use Rattle.binary_segmentation.proofs.node.Node.Laws as node″
+use Rattle.node.proofs.Data.{gain-record, node}
 use Rattle.control.proofs.Settings as settings′
 use Rattle.control.proofs.Settings.Laws as settings″
 use Rattle.binary_segmentation.proofs.tree.Asked as asked′
@@ -23,15 +18,6 @@ use Rattle.binary_segmentation.proofs.tree.Counts as counts′
 use Rattle.binary_segmentation.proofs.tree.Counts.Laws as counts″
 use Rattle.binary_segmentation.proofs.tree.Judged as judged′
 use Rattle.binary_segmentation.proofs.tree.Judged.Laws as judged″
-
-abbrev pub position : Datum
-position = of-struct position′.the-type position″.the-laws position″.the-plain position″.the-copy
-
-abbrev pub gain-record : Datum
-gain-record = of-struct record′.the-type record″.the-laws record″.the-plain record″.the-copy
-
-abbrev pub node : Datum
-node = of-struct node′.the-type node″.the-laws node″.the-plain node″.the-copy
 
 abbrev pub settings : Datum
 settings = of-struct settings′.the-type settings″.the-laws settings″.the-plain settings″.the-copy
@@ -52,14 +38,8 @@ uncut-fits x next is = let h = EL.owed judged′.the-type judged″.the-laws (Un
 pub cut-fits : (c : GainRecord) (next : Counts) → Fit judged (Cut c next) → Fit gain-record c × Fit counts next
 cut-fits c next is = let h = EL.owed judged′.the-type judged″.the-laws (Cut c next) _ is in (h .0, h .1 .0)
 
-pub split-fits : (c : GainRecord) → Fit gain-record c → Fit position (c .«best_split»)
-split-fits c is = LL.owed record′.the-type record″.the-laws c _ is .1 .1 .0
-
 pub place-fits : (n : Counts) → Fit counts n → Fit word (n .nodes)
 place-fits n is = LL.owed counts′.the-type counts″.the-laws n _ is .0
-
-pub position-fits : (n : ℕ) → Fit word n → Fit position (record { 0 = n })
-position-fits n is = LL.owes position′.the-type position″.the-laws (record { 0 = n }) (is, tt)
 
 pub counts-fit : (n : Counts) → Fit word (n .nodes) → Fit word (n .records) → Fit word (n .cuts) → Fit counts n
 counts-fit n a b c = LL.owes counts′.the-type counts″.the-laws n (a, (b, (c, tt)))

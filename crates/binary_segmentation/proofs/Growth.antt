@@ -18,13 +18,13 @@ use Rattle.scope.specs.Tree.{Run, direct, choice, Verdict, uncut, cut, judged, 
 use Rattle.stored.specs.Flat.{Put}
 use Rattle.rows.proofs.Stored.{sets-append}
 use Rattle.stored.proofs.Flat.{put-more, put-long, put-read}
-use Rattle.binary_segmentation.specs.declared.node.Node.{Node as NodeStruct}
+use Rattle.node.specs.declared.Node.{Node as NodeStruct}
 use Rattle.optimizer.specs.declared.optimizer_result.GainRecord.{GainRecord}
-use Rattle.optimizer.specs.Records.{toRecord}
+use Rattle.optimizer.specs.Records.{toRecord, fromRecord}
 use Rattle.binary_segmentation.specs.declared.tree.Asked.{Asked}
 use Rattle.binary_segmentation.specs.declared.tree.Counts.{Counts}
 use Rattle.binary_segmentation.specs.declared.tree.Judged.the-variants.{Uncut, Cut}
-use Rattle.binary_segmentation.specs.Nodes.{fromRecord, toNode, leafOf, cutOf}
+use Rattle.node.specs.Nodes.{toNode, leafOf, cutOf}
 use Rattle.binary_segmentation.specs.Growth.{Lent, stored, judgedOf, behind, behindCut, Judging, Written, Growing, Sound, Fits, Sized}
 use Rattle.demand.proofs.Records.{zero-one, direct-found, one-found}
 use Rattle.demand.proofs.Inside.{inside-are}

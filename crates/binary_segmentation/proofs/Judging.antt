@@ -14,12 +14,12 @@ use Rattle.scope.specs.Calls.{Split}
 use Rattle.rows.specs.declared.Position.{Position}
 use Rattle.optimizer.specs.declared.optimizer_result.BestSplit.{BestSplit}
 use Rattle.optimizer.specs.declared.optimizer_result.BestSplit.the-variants.{Found, Refused}
-use Rattle.optimizer.specs.Records.{bestSplitOf, searched}
+use Rattle.optimizer.specs.Records.{fromRecord, bestSplitOf, searched}
 use Rattle.optimizer.proofs.Found.{found-search, refused-search}
 use Rattle.stored.specs.Flat.{flatRows, gainsOf, recordsIn}
 use Rattle.binary_segmentation.specs.declared.tree.Counts.{Counts}
 use Rattle.binary_segmentation.specs.declared.tree.Judged.the-variants.{Uncut, Cut}
-use Rattle.binary_segmentation.specs.Nodes.{fromRecord, toNode, leafOf}
+use Rattle.node.specs.Nodes.{toNode, leafOf}
 use Rattle.binary_segmentation.specs.Growth.{behind, Judging}
 
 -- what the search's answer says of the direct record

@@ -15,7 +15,7 @@ use Rattle.stored.specs.Flat.{flatRows, gainsOf, recordsIn, Put}
 use Rattle.stored.proofs.Flat.{sets-holding, put-more, put-told, told-put}
 use Rattle.binary_segmentation.specs.declared.tree.Asked.{Asked}
 use Rattle.binary_segmentation.specs.declared.tree.Counts.{Counts}
-use Rattle.binary_segmentation.specs.Nodes.{toNode}
+use Rattle.node.specs.Nodes.{toNode}
 use Rattle.binary_segmentation.specs.Growth.{runOver, over, Lent, stored, Written, Growing, Sound, Fits, Ready, Holds, Segmented}
 use Rattle.demand.proofs.Records.{seeds-are}
 use Rattle.demand.proofs.Demand.{demand}

@@ -13,13 +13,14 @@ use Rattle.scope.specs.Grid.{Record}
 use Rattle.scope.specs.Layers.{Segment, one}
 use Rattle.scope.specs.Tree.{Run, direct, seedRecords, Verdict, uncut, cut, verdict, Grown, grow, treeOf, recordsOf, nodes, nodeCount, sheet, mostNodes}
 use Rattle.control.specs.Settings.{shortestOf}
+use Rattle.optimizer.specs.Records.{fromRecord}
 use Rattle.stored.specs.Flat.{flatRows, gainsOf, recordsIn, Put}
-use Rattle.binary_segmentation.specs.declared.node.Node.{Node as NodeStruct}
+use Rattle.node.specs.declared.Node.{Node as NodeStruct}
 use Rattle.binary_segmentation.specs.declared.tree.Asked.{Asked}
 use Rattle.binary_segmentation.specs.declared.tree.Counts.{Counts}
 use Rattle.binary_segmentation.specs.declared.tree.Judged.{Judged}
 use Rattle.binary_segmentation.specs.declared.tree.Judged.the-variants.{Uncut, Cut}
-use Rattle.binary_segmentation.specs.Nodes.{fromRecord, toNode, leafOf}
+use Rattle.node.specs.Nodes.{toNode, leafOf}
 
 -- a run over prefix sums: n rows, and the segments that were searched beforehand
 abbrev pub runOver : List Float → List ℕ → Asked → ℕ → List Segment → Run

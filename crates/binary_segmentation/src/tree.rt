@@ -1,8 +1,7 @@
 // Growing the tree: each segment is searched, its direct record appended, its choice judged; if it is cut, its left part is grown, then its right part.
 // What decides stands in small functions. `grow` and `binary_segmentation` hand the lent node list on and decide nothing.
-use crate::node;
-use crate::node::Node;
 use control::Settings;
+use node::Node;
 use optimizer::optimizer_result::BestSplit;
 use optimizer::optimizer_result::GainRecord;
 use rows::Position;

@@ -9,7 +9,7 @@ use Rattle.scope.specs.Asked.{Matrix, Shortest, Settings}
 use Rattle.scope.specs.Calls.{lengthAnswer, CandidatesAsked, candidatesCall, GainAsked, gainCall, SearchAsked, searchCall, seededCall, PickAsked, pickAnswer, GuessesAsked, guessesAnswer, PermutationAsked, permutationAnswer}
 use Rattle.stored.specs.Flat.{flatRows, gainsOf}
 use Rattle.segmentation.specs.Seeds.{Slices as RecordSlices, seededAsked}
-use Rattle.binary_segmentation.specs.Nodes.{toNode}
+use Rattle.node.specs.Nodes.{toNode}
 use Rattle.entry_tree.specs.Left.{Slices, treeTold}
 use Rattle.told.specs.Told.{numberOf, valueOr, splitOr, gainOr, entryOr, lengthOr, counterOr, pOr, significantOr, countsOr}
 

@@ -1,7 +1,7 @@
 // The tree, exported.
-use binary_segmentation::node::Node;
 use control::Settings;
 use control::Shortest;
+use node::Node;
 ghost use Rattle.changeforest_c.specs.Stored.{TreeStored};
 
 // The tree of the run: its nodes in preorder into nodes, its cuts into cuts; start, stop and best split of each record into rows, its gain

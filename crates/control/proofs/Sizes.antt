@@ -1,7 +1,7 @@
--- What holds where a size is not refused, and how firstOf goes on. Assumes nothing.
+-- What holds where a size is not refused, and what is told where a number is. Assumes nothing.
 use mathlib.Core.Path.{_≡_, refl}
 use mathlib.Core.Bool.{Bool, true, false, not, _||_, true≢false}
-use mathlib.Core.List.{List, [], _∷_}
+use mathlib.Core.List.{List, []}
 use Prim.Native.Nat.{ℕ, zero, suc, _*_, _^_, _≤_}
 use native.Mathlib.Nat.{mul-le-mul}
 use native.Mathlib.Omega.{arith}
@@ -10,7 +10,7 @@ use lib.Dec.{T, ltb, eqb, le→leb}
 use lib.IntN.{pos}
 use lib.Ieee.{Float, inFloat, binary64}
 use lib.ListN.{length}
-use Rattle.scope.specs.Refusals.{Test, test, firstOf, refused, unless, toldUnless, outside, wrongMatrix, wrongSegment, wrongSplit}
+use Rattle.scope.specs.Refusals.{refused, unless, toldUnless, outside, wrongMatrix, wrongSegment, wrongSplit}
 
 pub product-small : (n d : ℕ) → n ≤ 4097 → d ≤ 64 → n * d ≤ 262208
 product-small n d a b = mul-le-mul a b
@@ -44,13 +44,6 @@ segment n start stop e = let (a, b) = neither (ltb stop start) (ltb n stop) e in
 pub split-in : (start stop split : ℕ) → wrongSplit start stop split ≡ false → (start ≤ split) × (split ≤ stop)
 unfolding wrongSplit
 split-in start stop x e = let (a, b) = neither (ltb x start) (ltb stop x) e in (ltb-false x start a, ltb-false stop x b)
-
--- ---- the first test of a list holds, or does not
-pub that : (b : Bool) (k : ℕ) (ts : List Test) → b ≡ true → k ≡ firstOf (test b k ∷ ts)
-that b k ts e = rw e
-
-pub not-that : (b : Bool) (k : ℕ) (ts : List Test) → b ≡ false → firstOf (test b k ∷ ts) ≡ firstOf ts
-not-that b k ts e = rw e
 
 -- ---- a number above 0 is the answer, and nothing is told
 pub unless-refused : {A : Type 0} (k : ℕ) (a : A) → (k ≡ 0 → ⊥) → unless k a ≡ refused k

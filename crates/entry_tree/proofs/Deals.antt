@@ -7,7 +7,8 @@ use denote.Enum.Laws as EL
 use Rattle.lent.proofs.Data.{Datum, Fit, word, of-enum}
 use Rattle.lent.proofs.Held.{Deal, unique, shared, plain}
 use Rattle.binary_segmentation.specs.declared.tree.Counts.{Counts}
-use Rattle.binary_segmentation.proofs.Data.{node, settings, counts}
+use Rattle.node.proofs.Data.{node}
+use Rattle.binary_segmentation.proofs.Data.{settings, counts}
 use Rattle.entry_tree.specs.declared.Grown.the-variants.{Counted, Refused}
 use Rattle.prepared.specs.declared.Prepared.the-variants.{Seeded, Refused as Unprepared}
 use Rattle.control.specs.Settings.{settingsOf}

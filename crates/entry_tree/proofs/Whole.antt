@@ -25,7 +25,7 @@ use Rattle.segmentation.specs.Seeds.{Slices as RecordSlices}
 use Rattle.segmentation.proofs.Stored.{seeds-few}
 use Rattle.binary_segmentation.specs.declared.tree.Asked.{Asked}
 use Rattle.binary_segmentation.specs.declared.tree.Counts.{Counts}
-use Rattle.binary_segmentation.specs.Nodes.{toNode}
+use Rattle.node.specs.Nodes.{toNode}
 use Rattle.binary_segmentation.specs.Growth.{runOver, Lent, stored, Sized, Ready, Holds, Segmented}
 use Rattle.prepared.specs.declared.Prepared.the-variants.{Seeded, Refused as Unprepared}
 use Rattle.prepared.specs.Answers.{treeAsked, seedsOf, preparedOf, Prepares}

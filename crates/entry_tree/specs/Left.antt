@@ -9,8 +9,8 @@ use Rattle.scope.specs.Asked.{Matrix, Settings}
 use Rattle.scope.specs.Calls.{TreeTold, treeCall}
 use Rattle.stored.specs.Flat.{flatRows, gainsOf}
 use Rattle.segmentation.specs.Seeds.{Slices as RecordSlices}
-use Rattle.binary_segmentation.specs.declared.node.Node.{Node}
-use Rattle.binary_segmentation.specs.Nodes.{toNode}
+use Rattle.node.specs.declared.Node.{Node}
+use Rattle.node.specs.Nodes.{toNode}
 use Rattle.prepared.specs.Answers.{treeAsked}
 use Rattle.entry_tree.specs.declared.Grown.{Grown}
 use Rattle.entry_tree.specs.Answers.{grownOf, nodeRoom}

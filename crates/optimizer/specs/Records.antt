@@ -16,6 +16,10 @@ use Rattle.optimizer.specs.declared.optimizer_result.BestSplit.the-varia
 abbrev pub toRecord : GainRecord → Record
 toRecord r = record { start = r .start .0; stop = r .stop .0; split = r .«best_split» .0; gain = r .«max_gain» }
 
+-- and the struct that stands for a record
+abbrev pub fromRecord : Record → GainRecord
+fromRecord r = record { start = record { 0 = r .start }; stop = record { 0 = r .stop }; «best_split» = record { 0 = r .split }; «max_gain» = r .gain }
+
 -- another split of a record's segment
 abbrev pub tried : Record → ℕ → Float → Record
 tried r split gain = record { start = r .start; stop = r .stop; split = split; gain = gain }

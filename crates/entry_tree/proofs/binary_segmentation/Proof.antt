@@ -29,7 +29,7 @@ use Rattle.lent.proofs.Walk.{_▸_, Walk, first, updates, copies, builds, build
 use Rattle.lent.proofs.Calls.{Known, unasked, lent-on, calls}
 use Rattle.lent.proofs.Meets.{Done, finishes, meets}
 use Rattle.lent.proofs.Clauses.{unasked-meets}
-use Rattle.binary_segmentation.specs.declared.node.Node.{Node}
+use Rattle.node.specs.declared.Node.{Node}
 use Rattle.binary_segmentation.specs.declared.tree.Asked.{Asked}
 use denote.Ref.{now}
 use Rattle.scope.specs.Asked.{Matrix}

@@ -25,11 +25,11 @@ use Rattle.lent.proofs.Meets.{Walked, finishes, meets}
 use Rattle.lent.proofs.Clauses.{unasked-meets}
 use Rattle.scope.specs.Asked.{Matrix, Settings}
 use Rattle.entry_tree.specs.Left.{Slices, TreeLeft, PointsLeft}
-use Rattle.binary_segmentation.proofs.Data.{position, node, position-fits}
-use Rattle.binary_segmentation.proofs.Deals.{blanking}
-use Rattle.binary_segmentation.proofs.node.Node.without_choice.Symbol as blank-def
-use Rattle.binary_segmentation.proofs.node.Node.without_choice.Symbol.{name as #blank}
-use Rattle.binary_segmentation.proofs.node.Node.without_choice.Met as blank-thm
+use Rattle.node.proofs.Data.{position, node, position-fits}
+use Rattle.node.proofs.Deals.{blanking}
+use Rattle.node.proofs.Node.without_choice.Symbol as blank-def
+use Rattle.node.proofs.Node.without_choice.Symbol.{name as #blank}
+use Rattle.node.proofs.Node.without_choice.Met as blank-thm
 use Rattle.entry_tree.specs.Answers.{nodeRoom}
 use Rattle.entry_tree.specs.declared.Grown.{Grown}
 use Rattle.entry_tree.proofs.Deals.{answering, splitting}
@@ -89,5 +89,5 @@ split-points-spec 𝓤 H 𝓜 𝓖 𝓡 =
     let 𝓣 : Tables 𝓤 H = tablesOf 𝓤 H 𝓜 (tables 𝓤 H 𝓜 𝓡 code.env) in
     entered 𝓤 H (tripleOf 𝓤 H (𝓖 .A) f.signature (f.spec 𝓤 H (𝓖 .A) (𝓜 .mem) (𝓡 .run))) (tables 𝓤 H 𝓜 𝓡 code.env .C) (tables 𝓤 H 𝓜 𝓡 code.env .Λ) #split-points code.function (code.unfolded 𝓤 H 𝓜 𝓡)
     (split-points-meets 𝓤 H (𝓖 .A) W 𝓣
-    (λ xs fr. unasked 𝓤 H (𝓖 .A) W blanking xs fr (cited 𝓤 H _ 𝓜 𝓡 code.env #blank blank-def.routine code.calls-binary-segmentation·node·Node·without-choice (blank-thm.met 𝓤 H 𝓜 𝓖 𝓡) (anew blanking xs fr)))
+    (λ xs fr. unasked 𝓤 H (𝓖 .A) W blanking xs fr (cited 𝓤 H _ 𝓜 𝓡 code.env #blank blank-def.routine code.calls-node·Node·without-choice (blank-thm.met 𝓤 H 𝓜 𝓖 𝓡) (anew blanking xs fr)))
     (λ xs fr. unasked 𝓤 H (𝓖 .A) W answering xs fr (cited 𝓤 H _ 𝓜 𝓡 code.env #tree tree-def.routine code.calls-entry-tree·binary-segmentation (tree-thm.met 𝓤 H 𝓜 𝓖 𝓡) (anew answering xs fr))) (𝓜 .mem) (𝓡 .run))

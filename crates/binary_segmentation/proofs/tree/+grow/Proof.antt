@@ -29,21 +29,23 @@ use Rattle.lent.proofs.Meets.{Done, finishes, meets}
 use Rattle.rows.specs.declared.Position.{Position}
 use Rattle.optimizer.specs.declared.optimizer_result.GainRecord.{GainRecord}
 use Rattle.scope.specs.Tree.{Run}
-use Rattle.binary_segmentation.specs.declared.node.Node.{Node}
+use Rattle.node.specs.declared.Node.{Node}
 use Rattle.binary_segmentation.specs.declared.tree.Asked.{Asked}
 use Rattle.binary_segmentation.specs.declared.tree.Counts.{Counts}
 use Rattle.binary_segmentation.specs.declared.tree.Judged.{Judged}
 use Rattle.binary_segmentation.specs.declared.tree.Judged.the-variants.{Uncut, Cut}
 use Rattle.binary_segmentation.specs.Growth.{over, Lent, Judging, Growing, Fits}
 use Rattle.binary_segmentation.proofs.Growth.{sized-left, room-here, leaf-grown, split-within, fits-left, fits-cut, fits-node, fits-right, cut-grown}
-use Rattle.binary_segmentation.proofs.Data.{position, gain-record, counts, judged, uncut-fits, cut-fits, split-fits, place-fits}
-use Rattle.binary_segmentation.proofs.Deals.{putting, making, judging, putting-cut, growing}
-use Rattle.binary_segmentation.proofs.node.put_node.Symbol as put-node-def
-use Rattle.binary_segmentation.proofs.node.put_node.Symbol.{name as #put-node}
-use Rattle.binary_segmentation.proofs.node.put_node.Met as put-node-thm
-use Rattle.binary_segmentation.proofs.node.Node.cut.Symbol as cut-def
-use Rattle.binary_segmentation.proofs.node.Node.cut.Symbol.{name as #cut}
-use Rattle.binary_segmentation.proofs.node.Node.cut.Met as cut-thm
+use Rattle.node.proofs.Data.{position, gain-record, split-fits}
+use Rattle.node.proofs.Deals.{putting, making}
+use Rattle.binary_segmentation.proofs.Data.{counts, judged, uncut-fits, cut-fits, place-fits}
+use Rattle.binary_segmentation.proofs.Deals.{judging, putting-cut, growing}
+use Rattle.node.proofs.put_node.Symbol as put-node-def
+use Rattle.node.proofs.put_node.Symbol.{name as #put-node}
+use Rattle.node.proofs.put_node.Met as put-node-thm
+use Rattle.node.proofs.Node.cut.Symbol as cut-def
+use Rattle.node.proofs.Node.cut.Symbol.{name as #cut}
+use Rattle.node.proofs.Node.cut.Met as cut-thm
 use Rattle.binary_segmentation.proofs.tree.judge.Symbol as judge-def
 use Rattle.binary_segmentation.proofs.tree.judge.Symbol.{name as #judge}
 use Rattle.binary_segmentation.proofs.tree.judge.Met as judge-thm
@@ -216,8 +218,8 @@ unfolding code.grow-routine tablesOf
     let W = givenOf 𝓤 H 𝓜 𝓖 in
     mutual-elim 𝓤 H (𝓖 .A) (cycle.functions 𝓤 H (𝓖 .A) (𝓜 .mem) (𝓡 .run)) _<_ (Nat·lt-wfRel .wf) (grade 𝓤 H (𝓖 .A) (𝓜 .mem) (𝓡 .run) 𝓣)
     (λ t below. method 𝓤 H (𝓖 .A) (𝓜 .mem) (𝓡 .run) 𝓣 W
-    (λ xs fr. cited 𝓤 H _ 𝓜 𝓡 code.env #put-node put-node-def.routine code.calls-binary-segmentation·node·put-node (put-node-thm.met 𝓤 H 𝓜 𝓖 𝓡) (anew putting xs fr))
-    (λ xs fr. unasked 𝓤 H (𝓖 .A) W making xs fr (cited 𝓤 H _ 𝓜 𝓡 code.env #cut cut-def.routine code.calls-binary-segmentation·node·Node·cut (cut-thm.met 𝓤 H 𝓜 𝓖 𝓡) (anew making xs fr)))
+    (λ xs fr. cited 𝓤 H _ 𝓜 𝓡 code.env #put-node put-node-def.routine code.calls-node·put-node (put-node-thm.met 𝓤 H 𝓜 𝓖 𝓡) (anew putting xs fr))
+    (λ xs fr. unasked 𝓤 H (𝓖 .A) W making xs fr (cited 𝓤 H _ 𝓜 𝓡 code.env #cut cut-def.routine code.calls-node·Node·cut (cut-thm.met 𝓤 H 𝓜 𝓖 𝓡) (anew making xs fr)))
     (λ xs fr. cited 𝓤 H _ 𝓜 𝓡 code.env #judge judge-def.routine code.calls-binary-segmentation·tree·judge (judge-thm.met 𝓤 H 𝓜 𝓖 𝓡) (anew judging xs fr))
     (λ xs fr. cited 𝓤 H _ 𝓜 𝓡 code.env #put-cut put-cut-def.routine code.calls-binary-segmentation·tree·put-cut (put-cut-thm.met 𝓤 H 𝓜 𝓖 𝓡) (anew putting-cut xs fr))
     (code.grow-unfolded 𝓤 H 𝓜 𝓡) t below)

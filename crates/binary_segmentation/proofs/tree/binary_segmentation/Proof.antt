@@ -20,7 +20,8 @@ use Rattle.lent.proofs.Calls.{Known, calls}
 use Rattle.lent.proofs.Meets.{Walked, finishes, meets}
 use Rattle.binary_segmentation.specs.declared.tree.Counts.{Counts}
 use Rattle.binary_segmentation.proofs.Segmented.{whole-fits, segmented}
-use Rattle.binary_segmentation.proofs.Data.{position, counts, position-fits, counts-fit}
+use Rattle.node.proofs.Data.{position, position-fits}
+use Rattle.binary_segmentation.proofs.Data.{counts, counts-fit}
 use Rattle.binary_segmentation.proofs.Deals.{growing, segmenting}
 use Rattle.binary_segmentation.proofs.tree.grow.Symbol as grow-def
 use Rattle.binary_segmentation.proofs.tree.grow.Symbol.{name as #grow}

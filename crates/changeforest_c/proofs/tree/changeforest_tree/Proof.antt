@@ -36,7 +36,8 @@ use Rattle.lent.proofs.Walk.{_▸_, builds, reborrows, returning}
 use Rattle.lent.proofs.Calls.{Known, unasked, calls}
 use Rattle.lent.proofs.Meets.{Walked, finishes, meets}
 use Rattle.lent.proofs.Clauses.{unasked-meets}
-use Rattle.binary_segmentation.proofs.Data.{node, settings}
+use Rattle.node.proofs.Data.{node}
+use Rattle.binary_segmentation.proofs.Data.{settings}
 use Rattle.entry_tree.specs.declared.Grown.{Grown}
 use Rattle.entry_tree.specs.Answers.{grownOf}
 use Rattle.entry_tree.specs.Left.{Slices, treeTold, TreeLeft}

@@ -1,0 +1,2 @@
+-- The definitions that the contracts of `node` cite.
+pub mod Nodes

@@ -1,0 +1,96 @@
+// A node of the tree, and the lent list of nodes: plain data, so that one growth serves Rattle callers and C hosts.
+use optimizer::optimizer_result::GainRecord;
+use rows::Position;
+ghost use mathlib.Core.Path.{_≡_};
+ghost use mathlib.Core.Option.{none, some};
+ghost use Prim.Native.Nat.{_<_};
+ghost use lib.ListN.{length, getD, set};
+ghost use Rattle.optimizer.specs.Records.{toRecord};
+ghost use Rattle.node.specs.Nodes.{toNode, leafOf, cutOf};
+
+// A segment, whether it is cut, its choice (all zero where there is none), and the places of its parts (0 and 0 for a leaf).
+#[repr(C)]
+pub struct Node {
+    pub start: Position,
+    pub stop: Position,
+    pub significant: bool,
+    pub has_choice: bool,
+    pub choice: GainRecord,
+    pub left: usize,
+    pub right: usize,
+}
+
+impl Node {
+    // A leaf without a record.
+    pub fn without_choice(start: Position, stop: Position) -> Node
+        ensures { λ r. ⌜ r ≡ toNode (leafOf (start .0) (stop .0) none) ⌝ }
+    {
+        let choice = GainRecord {
+            start: Position(0),
+            stop: Position(0),
+            best_split: Position(0),
+            max_gain: 0.0,
+        };
+        Node {
+            start,
+            stop,
+            significant: false,
+            has_choice: false,
+            choice,
+            left: 0,
+            right: 0,
+        }
+    }
+
+    // A leaf whose choice does not cut it.
+    pub fn uncut(start: Position, stop: Position, choice: GainRecord) -> Node
+        ensures { λ r. ⌜ r ≡ toNode (leafOf (start .0) (stop .0) (some (toRecord choice))) ⌝ }
+    {
+        Node {
+            start,
+            stop,
+            significant: false,
+            has_choice: true,
+            choice,
+            left: 0,
+            right: 0,
+        }
+    }
+
+    // A segment that is cut by its choice, with the places of both parts.
+    pub fn cut(
+        start: Position,
+        stop: Position,
+        choice: GainRecord,
+        left: usize,
+        right: usize,
+    ) -> Node
+        ensures { λ r. ⌜ r ≡ toNode (cutOf (start .0) (stop .0) (toRecord choice) left right) ⌝ }
+    {
+        Node {
+            start,
+            stop,
+            significant: true,
+            has_choice: true,
+            choice,
+            left,
+            right,
+        }
+    }
+}
+
+// Stores a node at a place.
+pub fn put_node(nodes: &mut [Node], at: usize, node: Node)
+    requires { ⌜ at < length (now nodes) ⌝ }
+    ensures { λ _. ⌜ now (nodes .exit) ≡ set (now (nodes .entry)) at node ⌝ }
+{
+    nodes[at] = node;
+}
+
+// The node at a place.
+pub fn node_at(nodes: &[Node], at: usize) -> Node
+    requires { ⌜ at < length (now nodes) ⌝ }
+    ensures { λ r. ⌜ r ≡ getD (now (nodes .entry)) at (toNode (leafOf 0 0 none)) ⌝ }
+{
+    nodes[at]
+}
