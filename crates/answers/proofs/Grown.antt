@@ -21,7 +21,7 @@ use Rattle.stored.specs.Flat.{flatRows, gainsOf, recordsIn}
 use Rattle.stored.proofs.Flat.{records-told}
 use Rattle.demand.proofs.Demand.{demand, records-fit}
 use Rattle.line.specs.declared.Given.{Given}
-use Rattle.deck.specs.Limits.{givenRefusal}
+use Rattle.limits.specs.Limits.{givenRefusal}
 use Rattle.sheet_text.specs.Lines.{sheetOf}
 use Rattle.sheet_text.proofs.Lookup.{lines-are}
 use Rattle.answers.specs.Answered.{matrixHeld, settingsHeld, runHeld, lent, treeNumber, Grew, givenText}

@@ -24,7 +24,7 @@ use Rattle.scope.proofs.Members.{first-of, second-of}
 use Rattle.control.proofs.Sizes.{neither, inside}
 use Rattle.control.proofs.Clean.{passed}
 use Rattle.line.specs.declared.Given.{Given}
-use Rattle.deck.specs.Limits.{wrongGiven, wrongHeld, givenRefusal}
+use Rattle.limits.specs.Limits.{wrongGiven, wrongHeld, givenRefusal}
 use Rattle.answers.specs.Answered.{lent}
 
 -- ---- the sizes

@@ -18,8 +18,8 @@ use Rattle.report.proofs.Texts.{written-length, written-whole}
 use Rattle.line.specs.declared.Given.{Given}
 use Rattle.deck.specs.declared.Read.{Read}
 use Rattle.deck.specs.Meaning.{Told}
-use Rattle.deck.specs.Limits.{givenRefusal}
-use Rattle.deck.proofs.Refused.{held, refusal-right}
+use Rattle.limits.specs.Limits.{givenRefusal}
+use Rattle.limits.proofs.Refused.{held, refusal-right}
 use Rattle.answers.specs.Answered.{matrixHeld, settingsHeld, runHeld, lent, treeNumber, orElse, givenText, readText, Said}
 use Rattle.answers.proofs.Limits.{DeckClean, deck-clean, tree-clean}
 

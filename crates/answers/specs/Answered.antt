@@ -15,7 +15,7 @@ use Rattle.stored.specs.Flat.{flatRows, gainsOf}
 use Rattle.line.specs.declared.Given.{Given}
 use Rattle.deck.specs.declared.Read.{Read}
 use Rattle.deck.specs.Meaning.{Says}
-use Rattle.deck.specs.Limits.{givenRefusal}
+use Rattle.limits.specs.Limits.{givenRefusal}
 use Rattle.entry_tree.specs.Answers.{grownOf, nodeRoom}
 use Rattle.entry_tree.specs.declared.Grown.{Grown}
 

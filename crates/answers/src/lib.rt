@@ -10,7 +10,7 @@ use line::MOST_PAIRS;
 ghost use mathlib.Core.Path.{_≡_};
 ghost use Prim.Native.Nat.{_≤_};
 ghost use lib.ListN.{length, take};
-ghost use Rattle.deck.specs.Limits.{givenRefusal};
+ghost use Rattle.limits.specs.Limits.{givenRefusal};
 ghost use Rattle.report.specs.Written.{Written};
 ghost use Rattle.answers.specs.Answered.{givenText, readText, Said, Grew};
 
@@ -66,7 +66,7 @@ fn answer_deck(
     ensures { λ r. ⌜ Written (now (out .entry)) 0 (givenText deck (now (cells .entry)) (now (forbidden .entry))) (now (out .exit)) r ⌝ }
     ensures most { λ r. ⌜ r ≤ length (now (out .entry)) ⌝ }
 {
-    let no = deck::refusal(deck, forbidden);
+    let no = limits::refusal(deck, forbidden);
     if no != 0 {
         return report::put_refused(out, 0, no);
     }
@@ -92,7 +92,7 @@ fn grow(
     let len = deck.n * deck.d;
     let end = 2 * deck.pairs;
     let shortest = Shortest { m: deck.m };
-    let threshold = deck::threshold(deck.threshold);
+    let threshold = limits::threshold(deck.threshold);
     let settings = Settings {
         shortest,
         threshold,

@@ -2,4 +2,3 @@
 pub mod Fed
 pub mod Fields
 pub mod Whole
-pub mod Refused

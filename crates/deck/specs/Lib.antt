@@ -1,4 +1,3 @@
 -- The definitions that the contracts of `deck` cite.
 pub mod Walk
 pub mod Meaning
-pub mod Limits

@@ -1,9 +1,5 @@
-// The text program's input, in whatever lots it arrives: what its lines are, the deck that they make, and the refusals that the deck earns.
+// The text program's input, in whatever lots it arrives: what its lines are, and the deck that they make.
 // Inside the library. A function follows its definition of specs/Walk.antt; proofs/ shows what the walk says of the whole input.
-mod limits;
-
-pub use limits::refusal;
-pub use limits::threshold;
 use line::Event;
 use line::Given;
 use line::Place;

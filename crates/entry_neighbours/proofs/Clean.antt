@@ -10,7 +10,7 @@ use Rattle.scope.specs.Lists.{every}
 use Rattle.scope.specs.Calls.{OrderingAsked, orderingTests, orderingRefusal, PredictAsked, predictTests, predictRefusal}
 use Rattle.control.proofs.Sizes.{matrix, segment}
 use Rattle.control.proofs.Clean.{passed, answers}
-use Rattle.knn.specs.Matrix.{Matrix as Neighbours}
+use Rattle.distances.specs.Matrix.{Matrix as Neighbours}
 
 -- ---- neighbours
 pub record OrderingClean (a : OrderingAsked) : Type 0 where

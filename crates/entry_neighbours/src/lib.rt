@@ -20,7 +20,7 @@ pub fn ordering(
     if no != 0 {
         return no;
     }
-    knn::calculate_ordering(cells, n, d, ordering, distances);
+    distances::calculate_ordering(cells, n, d, ordering, distances);
     0
 }
 
@@ -53,7 +53,7 @@ pub fn predict(
     if no != 0 {
         return no;
     }
-    knn::calculate_ordering(cells, n, d, ordering, distances);
+    distances::calculate_ordering(cells, n, d, ordering, distances);
     knn::predict(cells, n, d, ordering, start, stop, split, predictions);
     0
 }

@@ -1,3 +1,2 @@
--- Laws of distances and counts.
-pub mod Distances
+-- Laws of counts.
 pub mod Counts

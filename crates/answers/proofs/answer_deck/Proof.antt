@@ -2,7 +2,7 @@
 use mathlib.Core.Path.{_≡_, sym, _∙_}
 use native.Mathlib.Omega.{arith}
 use denote.Ref.{now}
-use Rattle.deck.specs.Limits.{givenRefusal}
+use Rattle.limits.specs.Limits.{givenRefusal}
 use Rattle.answers.proofs.Grown.{deck-refused, refused-text, Sheeted, sheeted}
 use borrow.Author.Needs.{needs}
 use Rattle.answers.proofs.answer_deck.Statement.{statement}

@@ -2,7 +2,7 @@
 use mathlib.Core.Path.{_≡_, sym, _∙_, refl}
 use denote.Ref.{now}
 use Rattle.scope.specs.Calls.{PredictAsked, predictRefusal, ordersOf, lastDistances, predictionsOf, predictCall}
-use Rattle.knn.proofs.Distances.{filled}
+use Rattle.distances.proofs.Distances.{filled}
 use Rattle.entry_neighbours.specs.Left.{predictAsked}
 use Rattle.control.proofs.Follows.{held-refused, held-given}
 use Rattle.entry_neighbours.proofs.Clean.{PredictClean, predict-clean}

@@ -15,8 +15,8 @@ use Rattle.scope.specs.Rounding.{wholeRoot}
 use Rattle.scope.specs.Neighbours.{orderOf, orders, neighbours, countOf, predictions}
 use Rattle.rows.proofs.Stored.{store-more}
 use Rattle.rounding.proofs.Root.{square-ge, root-is}
-use Rattle.knn.specs.Matrix.{Filled}
-use Rattle.knn.proofs.Distances.{row-in, square-small, length-order, length-orders, order-at}
+use Rattle.distances.specs.Matrix.{Filled}
+use Rattle.distances.proofs.Distances.{row-in, square-small, length-order, length-orders, order-at}
 use Rattle.knn.proofs.predict.Statement.{statement}
 use Rattle.knn.proofs.predict.Tie as tie
 

@@ -13,12 +13,12 @@ use lib.Seq.{take-at, drop-at, length-take-le}
 use Rattle.scope.specs.Lists.{holding}
 use Rattle.scope.specs.Neighbours.{distances, ordered, orderOf, orders}
 use Rattle.order.specs.Rows.{Numeric}
-use Rattle.knn.specs.Matrix.{Matrix}
+use Rattle.distances.specs.Matrix.{Matrix}
 use Rattle.order.proofs.Parts.{put-more}
 use Rattle.scope.proofs.Signs.{length-distances}
-use Rattle.knn.proofs.Distances.{row-in, square-small, length-orders, distances-numeric}
-use Rattle.knn.proofs.calculate_ordering.Statement.{statement}
-use Rattle.knn.proofs.calculate_ordering.Tie as tie
+use Rattle.distances.proofs.Distances.{row-in, square-small, length-orders, distances-numeric}
+use Rattle.distances.proofs.calculate_ordering.Statement.{statement}
+use Rattle.distances.proofs.calculate_ordering.Tie as tie
 
 record State (cells : List Float) (n d : ℕ) (ordering₀ ordering : List ℕ) (ds₀ ds : List Float) (i : ℕ) : Type 0 where
   matrix : Matrix cells n d

@@ -5,8 +5,8 @@ use lib.Dec.{T}
 use lib.Ieee.{Float, nan, inf, fin, binary64, ofBits, div, isNan}
 use lib.Ieee.Bits.{nanBits-is}
 use borrow.Author.Needs.{needs}
-use Rattle.deck.proofs.limits.threshold.Statement.{statement}
-use Rattle.deck.proofs.limits.threshold.Tie as tie
+use Rattle.limits.proofs.threshold.Statement.{statement}
+use Rattle.limits.proofs.threshold.Tie as tie
 
 -- all NaN are one, and 0 / 0 is it
 a-nan : (x : Float) → isNan x ≡ true → div binary64 (ofBits binary64 0) (ofBits binary64 0) ≡ x

@@ -13,9 +13,9 @@ use lib.Seq.{drop-length}
 use Rattle.scope.specs.Neighbours.{squares, distances}
 use Rattle.rows.proofs.Stored.{store-more}
 use Rattle.scope.proofs.Signs.{length-distances}
-use Rattle.knn.proofs.Distances.{row-in}
-use Rattle.knn.proofs.distances_from.Statement.{statement}
-use Rattle.knn.proofs.distances_from.Tie as tie
+use Rattle.distances.proofs.Distances.{row-in}
+use Rattle.distances.proofs.distances_from.Statement.{statement}
+use Rattle.distances.proofs.distances_from.Tie as tie
 
 next : (cells : List Float) (d i j : ℕ) (ds₀ ds : List Float) (v : Float) → v ≡ squares cells d i j d → j < length ds₀ → ds ≡ distances cells d i j ++ drop j ds₀ → set ds j v ≡ distances cells d i (j + 1) ++ drop (j + 1) ds₀
 unfolding distances

@@ -1,9 +1,9 @@
 -- `refusal` meets its contract: test by test, and what the definitions judge of the deck is the same.
 use borrow.Author.Needs.{needs}
-use Rattle.deck.specs.Limits.{givenRefusal}
-use Rattle.deck.proofs.Refused.{refusal-right}
-use Rattle.deck.proofs.limits.refusal.Statement.{statement}
-use Rattle.deck.proofs.limits.refusal.Tie as tie
+use Rattle.limits.specs.Limits.{givenRefusal}
+use Rattle.limits.proofs.Refused.{refusal-right}
+use Rattle.limits.proofs.refusal.Statement.{statement}
+use Rattle.limits.proofs.refusal.Tie as tie
 
 pub refusal-spec : {M : Type 1} → statement M
 refusal-spec = tie.close (tie.spec

@@ -5,9 +5,9 @@ use native.Mathlib.Omega.{arith}
 use borrow.Author.Needs.{needs}
 use borrow.Author.Tests.{le-ltb}
 use Rattle.token.proofs.Tested.{tested}
-use Rattle.deck.specs.Limits.{wrongHeld}
-use Rattle.deck.proofs.limits.wrong_pairs.Statement.{statement}
-use Rattle.deck.proofs.limits.wrong_pairs.Tie as tie
+use Rattle.limits.specs.Limits.{wrongHeld}
+use Rattle.limits.proofs.wrong_pairs.Statement.{statement}
+use Rattle.limits.proofs.wrong_pairs.Tie as tie
 
 pub wrong-pairs-spec : {M : Type 1} → statement M
 unfolding wrongHeld

@@ -1,4 +1,4 @@
-// The refusals that a deck earns by the program's limits: numbers 1 to 5, the lowest that applies.
+// The refusals that a deck earns by the program's limits: numbers 1 to 5, the lowest that applies. Inside the library.
 use control::MOST_COLUMNS;
 use control::MOST_LENGTH;
 use line::Given;
@@ -8,7 +8,7 @@ ghost use mathlib.Core.Path.{_≡_};
 ghost use Prim.Native.Nat.{_≤_};
 ghost use lib.ListN.{length};
 ghost use lib.Ieee.{binary64, ofBits, isNan};
-ghost use Rattle.deck.specs.Limits.{wrongGiven, wrongHeld, givenRefusal, Judged};
+ghost use Rattle.limits.specs.Limits.{wrongGiven, wrongHeld, givenRefusal, Judged};
 
 // The program's own size of n.
 const MOST_ROWS: usize = 256;
@@ -56,7 +56,7 @@ pub fn threshold(bits: u64) -> f64
     f64::from_bits(bits)
 }
 
-// The deck's refusal, 0 where it has none; the forbidden pairs are those that `feed` stored.
+// The deck's refusal, 0 where it has none; the forbidden pairs are those that `deck::feed` stored.
 pub fn refusal(deck: Given, forbidden: &[usize]) -> u32
     requires { ⌜ 128 ≤ length (now forbidden) ⌝ }
     ensures answer { λ r. ⌜ r ≡ givenRefusal deck (now (forbidden .entry)) ⌝ }

@@ -12,8 +12,8 @@ use borrow.Author.Tests.{eq-eqb, ne-eqb, lt-ltb, le-ltb, ltb-true, ltb-false, eq
 use Rattle.scope.specs.Refusals.{outside, mostColumns, wellPaired}
 use Rattle.scope.specs.Program.{Reading, wrongDeck, wrongPairs, deckRefusal}
 use Rattle.token.proofs.Tested.{either}
 use Rattle.deck.specs.Meaning.{Told}
-use Rattle.deck.specs.Limits.{wrongGiven, wrongHeld, givenRefusal, Judged}
+use Rattle.limits.specs.Limits.{wrongGiven, wrongHeld, givenRefusal, Judged}
 use Rattle.line.specs.declared.Given.{Given}
 
 -- a count of up to 2,048 is exact

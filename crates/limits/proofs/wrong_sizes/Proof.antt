@@ -4,9 +4,9 @@ use native.Mathlib.Omega.{arith}
 use borrow.Author.Needs.{needs}
 use borrow.Author.Tests.{lt-ltb, le-ltb}
 use Rattle.control.proofs.Sizes.{inside, product-small}
-use Rattle.deck.specs.Limits.{wrongGiven}
-use Rattle.deck.proofs.limits.wrong_sizes.Statement.{statement}
-use Rattle.deck.proofs.limits.wrong_sizes.Tie as tie
+use Rattle.limits.specs.Limits.{wrongGiven}
+use Rattle.limits.proofs.wrong_sizes.Statement.{statement}
+use Rattle.limits.proofs.wrong_sizes.Tie as tie
 
 mul-cells : tie.Need-mul-cells
 mul-cells c =

@@ -10,8 +10,8 @@ use Rattle.scope.specs.Floats.{_⊕_, _⊖_}
 use Rattle.scope.specs.Lists.{at}
 use Rattle.scope.specs.Gain.{square}
 use Rattle.scope.specs.Neighbours.{difference, squares}
-use Rattle.knn.proofs.square_distance.Statement.{statement}
-use Rattle.knn.proofs.square_distance.Tie as tie
+use Rattle.distances.proofs.square_distance.Statement.{statement}
+use Rattle.distances.proofs.square_distance.Tie as tie
 
 abbrev Inv-loop : tie.InvT-loop
 Inv-loop cells d i j a b sum₀ c₀ sum c = (c ≤ d) × (sum ≡ squares cells d i j c)

@@ -16,7 +16,7 @@ use Rattle.scope.specs.Neighbours.{distances, orderOf, orders}
 use Rattle.scope.proofs.Signs.{length-distances}
 use Rattle.scope.proofs.Ordering.{ordered-length, no-NaN}
 use Rattle.order.specs.Rows.{Numeric}
-use Rattle.knn.specs.Matrix.{Matrix, Filled}
+use Rattle.distances.specs.Matrix.{Matrix, Filled}
 
 -- row i of n lies in the table
 pub row-in : (i n d l : ℕ) → i < n → l ≡ n * d → i * d + d ≤ l

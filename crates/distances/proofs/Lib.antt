@@ -1,0 +1,2 @@
+-- Laws of distances and of the table of orders.
+pub mod Distances

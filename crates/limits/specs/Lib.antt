@@ -1,0 +1,2 @@
+-- The definitions that the contracts of `limits` cite.
+pub mod Limits
