@@ -1,6 +1,6 @@
 -- What is written for a reading, from what is kept of the deck; and what makes it right.
 use mathlib.Core.Path.{_≡_}
-use mathlib.Core.List.{List, [], _∷_, _++_}
+use mathlib.Core.List.{List, [], _∷_}
 use Prim.Native.Nat.{ℕ, zero, suc, _*_, _≤_}
 use lib.Ieee.{Float, ofBits, binary64}
 use lib.ListN.{length, take}

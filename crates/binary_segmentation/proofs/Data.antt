@@ -8,7 +8,6 @@ use Rattle.node.specs.declared.Node.{Node}
 use Rattle.binary_segmentation.specs.declared.tree.Counts.{Counts}
 use Rattle.binary_segmentation.specs.declared.tree.Judged.the-variants.{Uncut, Cut}
 use Rattle.control.specs.declared.Settings.{Settings}
-use Rattle.binary_segmentation.specs.declared.tree.Asked.{Asked}
 use Rattle.node.proofs.Data.{gain-record, node}
 use Rattle.control.proofs.Settings as settings′
 use Rattle.control.proofs.Settings.Laws as settings″

@@ -1,9 +1,9 @@
 -- What follows from a call's number: its answer, and what a lent slice holds. Assumes nothing.
-use mathlib.Core.Path.{_≡_, refl, sym, _∙_, ap}
+use mathlib.Core.Path.{_≡_, sym, _∙_, ap}
 use mathlib.Core.List.{List, []}
 use Prim.Native.Nat.{ℕ}
 use Rattle.scope.specs.Lists.{holding}
-use Rattle.scope.specs.Refusals.{Answer, refused, given, unless, toldUnless}
+use Rattle.scope.specs.Refusals.{refused, given, unless, toldUnless}
 use Rattle.control.proofs.Sizes.{unless-refused, told-nothing}
 
 -- k is the number that the definition gives

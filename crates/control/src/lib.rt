@@ -2,7 +2,7 @@
 // Each function answers one test of document 01's table of refusals; which number it gives is the caller's.
 use rows::Position;
 ghost use mathlib.Core.Path.{_≡_};
-ghost use mathlib.Core.Bool.{Bool, true, false};
+ghost use mathlib.Core.Bool.{true, false};
 ghost use mathlib.Core.List.{[], _∷_};
 ghost use Prim.Native.Nat.{_+_, _*_, _/_, _≤_, min};
 ghost use lib.Ieee.{isNan};

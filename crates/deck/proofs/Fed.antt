@@ -1,6 +1,6 @@
 -- Feeding one byte more, none, and lot after lot. Assumes nothing.
-use mathlib.Core.Path.{_≡_, refl}
-use mathlib.Core.List.{List, [], _∷_, _++_, foldl-append}
+use mathlib.Core.Path.{_≡_}
+use mathlib.Core.List.{List, _++_, foldl-append}
 use Prim.Native.Nat.{ℕ, _+_, _<_, _≤_}
 use native.Mathlib.Numerals.{add-one}
 use lib.ListN.{length, drop, getD, drop-of-length-le}

@@ -1,9 +1,9 @@
 -- The state after the whole input says what the definitions say of it. Assumes nothing.
 use mathlib.Core.Path.{_≡_, refl, sym, _∙_, ap, subst}
-use mathlib.Core.Logic.{_⊎_, inl, inr}
-use mathlib.Core.Bool.{Bool, true, false, cond, not, true≢false}
-use mathlib.Core.List.{List, [], _∷_, _++_, foldl}
-use Prim.Native.Nat.{ℕ, suc, _+_, _-_, _^_, _≤_, _<_}
+use mathlib.Core.Logic.{inl, inr}
+use mathlib.Core.Bool.{true, false, cond, not, true≢false}
+use mathlib.Core.List.{List, [], _∷_, foldl}
+use Prim.Native.Nat.{ℕ, _+_, _-_, _^_, _≤_, _<_}
 use native.Mathlib.Omega.{arith}
 use lib.Dec.{ltb, leb, eqb}
 use lib.IntN.{ℤ}
@@ -14,10 +14,10 @@ use Rattle.scope.specs.Text.{parts}
 use Rattle.scope.specs.Program.{Line, cfgLine, noLine, rowLine, malformed, byWord, readLine, Deck, Reading, begun, barring, feeding, bad, deckOf, withPair as deckWithPair, withCells, next, ended, readLines, readInput, isReading}
 use Rattle.token.proofs.Tested.{either, cond-same}
 use Rattle.token.proofs.Parts.{walk, leftover, walk-leftover, fold-same, some-parts, parts-length}
-use Rattle.line.specs.Walk.{upTo, nothing, withCfg, withPair, withCell, storedCell, storedPair}
+use Rattle.line.specs.Walk.{nothing, withCfg, withPair, withCell, storedCell, storedPair}
 use Rattle.line.specs.Kept.{Kept}
 use Rattle.deck.specs.Walk.{ready, start, afterLine, afterRow, nextLine, turned, step, stepRun, Run, run, onto, fed, atPhase, readOf}
-use Rattle.deck.specs.Meaning.{Told, Says, after, Right}
+use Rattle.deck.specs.Meaning.{Says, after, Right}
 use Rattle.line.specs.declared.Place.{Place}
 use Rattle.line.specs.declared.Given.{Given}
 use Rattle.deck.specs.declared.Phase.{Phase}

@@ -1,12 +1,12 @@
 -- What holds where a call is not refused. Assumes nothing.
 use mathlib.Core.Path.{_≡_}
 use mathlib.Core.List.{[], _∷_}
-use Prim.Native.Nat.{ℕ, _+_, _-_, _*_, _≤_}
+use Prim.Native.Nat.{_-_, _≤_}
 use native.Mathlib.Omega.{arith}
 use borrow.Author.Tests.{ltb-false}
 use Rattle.scope.specs.Refusals.{firstOf, no9}
 use Rattle.scope.specs.Candidates.{rangeSize, no10}
-use Rattle.scope.specs.Calls.{sumsRoom, CandidatesAsked, candidatesTests, candidatesRefusal, GainAsked, gainTests, gainRefusal, SearchAsked, searchTests, searchRefusal}
+use Rattle.scope.specs.Calls.{CandidatesAsked, candidatesTests, candidatesRefusal, GainAsked, gainTests, gainRefusal, SearchAsked, searchTests, searchRefusal}
 use Rattle.change_in_mean.proofs.Room.{SumsClean, sums-clean}
 use Rattle.control.proofs.Sizes.{matrix, inside, segment, split-in}
 use Rattle.control.proofs.Clean.{passed}

@@ -5,7 +5,7 @@ use Prim.Native.Nat.{ℕ}
 use lib.Ieee.{Float}
 use Rattle.scope.specs.Lists.{holding}
 use Rattle.scope.specs.Asked.{Matrix, Shortest}
-use Rattle.scope.specs.Calls.{SeededTold, seededCall}
+use Rattle.scope.specs.Calls.{seededCall}
 use Rattle.stored.specs.Flat.{flatRows, gainsOf}
 use Rattle.segmentation.specs.Seeds.{Slices, seededAsked}
 use Rattle.entry_mean.specs.declared.Count.{Count}

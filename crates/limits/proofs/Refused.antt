@@ -1,15 +1,15 @@
 -- The refusal that is judged from what is kept of a deck is the deck's. Assumes nothing.
-use mathlib.Core.Path.{_≡_, refl, sym, _∙_, ap, subst}
-use mathlib.Core.Bool.{Bool, true, false, not, _||_, or-true}
-use mathlib.Core.List.{List, [], _∷_, _++_}
+use mathlib.Core.Path.{_≡_, sym, _∙_}
+use mathlib.Core.Bool.{_||_, or-true}
+use mathlib.Core.List.{List}
 use Prim.Native.Nat.{ℕ, _*_, _≤_, _<_, min}
 use native.Mathlib.Omega.{arith}
 use lib.Dec.{ltb, eqb}
-use lib.Ieee.{Float, binary64, ofBits}
+use lib.Ieee.{Float}
 use lib.ListN.{length, take, drop}
 use lib.Seq.{take-all, take-at}
 use borrow.Author.Tests.{eq-eqb, ne-eqb, lt-ltb, le-ltb, ltb-true, ltb-false, eqb-true, eqb-false}
-use Rattle.scope.specs.Refusals.{outside, mostColumns, wellPaired}
+use Rattle.scope.specs.Refusals.{outside, mostColumns}
 use Rattle.scope.specs.Program.{Reading, wrongDeck, wrongPairs, deckRefusal}
 use Rattle.token.proofs.Tested.{either}
 use Rattle.deck.specs.Meaning.{Told}

@@ -6,7 +6,7 @@ use Prim.Native.Nat.{ℕ, _*_, _≤_}
 use lib.Dec.{ltb, eqb}
 use lib.Ieee.{Float, ofBits, binary64}
 use lib.ListN.{length, take}
-use Rattle.scope.specs.Refusals.{Test, test, firstOf, outside, mostColumns, wellPaired, no2, no3}
+use Rattle.scope.specs.Refusals.{test, firstOf, outside, mostColumns, wellPaired, no2, no3}
 use Rattle.scope.specs.Program.{Reading, deckRefusal}
 use Rattle.deck.specs.Meaning.{Told}
 use Rattle.line.specs.declared.Given.{Given}

@@ -1,14 +1,13 @@
 -- What is kept of a deck as its pairs and cells come. Assumes nothing.
 use mathlib.Core.Path.{_≡_, refl, sym, _∙_, ap, subst}
-use mathlib.Core.Bool.{Bool, true, false, cond, not, _&&_, _||_, and-true, and-assoc}
+use mathlib.Core.Bool.{Bool, true, false, not, _&&_, _||_, and-true, and-assoc}
 use mathlib.Core.List.{List, [], _∷_, _++_, map, append-assoc, append-nil}
-use Prim.Native.Nat.{ℕ, suc, _+_, _*_, _≤_, _<_, min}
-use native.Mathlib.Numerals.{add-one}
+use Prim.Native.Nat.{ℕ, _+_, _*_, _≤_, _<_, min}
 use native.Mathlib.Omega.{arith}
 use lib.Dec.{ltb, leb}
 use lib.IntN.{ℤ}
 use lib.Ieee.{Float, ofInt, binary64}
-use lib.ListN.{length, take, drop, set, length-append, length-map}
+use lib.ListN.{length, take, set, length-append, length-map}
 use lib.Seq.{take-all, take-append-le}
 use borrow.Author.Tests.{le-leb, lt-leb, ltb-true, ltb-false, leb-true, leb-false}
 use Rattle.rows.proofs.Stored.{store-more}
@@ -18,7 +17,6 @@ use Rattle.token.proofs.Tested.{either}
 use Rattle.line.specs.Walk.{upTo, nothing, withCfg, withPair, withCell, storedCell, storedPair}
 use Rattle.line.specs.Kept.{Kept}
 use Rattle.line.specs.declared.Given.{Given}
-use Rattle.line.proofs.Heads.{Head}
 use Rattle.line.proofs.Lines.{rowOn}
 
 -- ---- one more, counted up to a top

@@ -5,7 +5,7 @@ use mathlib.Core.Option.{some}
 use Prim.Native.Nat.{ℕ, zero, suc, _+_, _*_, _^_}
 use lib.Dec.{ltb, leb, leb·suc-suc}
 use lib.IntN.{pos, negsuc}
-use lib.Ieee.{Float, inf, Format, binary64, prec, emax, low, odd, units, round, neg, ofInt}
+use lib.Ieee.{inf, Format, binary64, prec, emax, low, odd, units, neg, ofInt}
 use lib.Ieee.Fits.{round-is}
 use borrow.Author.Tests.{lt-ltb, le-ltb, leb-true, leb-false}
 use Rattle.scope.specs.Text.{negative}

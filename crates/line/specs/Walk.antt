@@ -1,10 +1,10 @@
 -- A line field by field: what the code keeps of it.
-use mathlib.Core.Bool.{Bool, true, false, cond, not, _||_}
+use mathlib.Core.Bool.{Bool, false, cond, not, _||_}
 use mathlib.Core.Option.{Option, none, some}
 use mathlib.Core.List.{List}
 use Prim.Native.Nat.{ℕ, _+_, _*_}
-use lib.Dec.{ltb, leb, eqb}
-use lib.IntN.{ℤ, pos, negsuc}
+use lib.Dec.{ltb, leb}
+use lib.IntN.{ℤ}
 use lib.Ieee.{Float, ofInt, binary64}
 use lib.ListN.{set}
 use Rattle.scope.specs.Program.{isReading}

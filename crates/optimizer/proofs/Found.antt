@@ -1,8 +1,8 @@
 -- Laws for callers of a search: what a found split is, and when there is none. Assumes nothing.
 use mathlib.Core.Path.{_≡_, refl, sym, _∙_, ap}
-use mathlib.Core.Logic.{_↔_, ⊎-elim}
+use mathlib.Core.Logic.{_↔_}
 use mathlib.Core.Bool.{Bool, true, false, cond}
-use mathlib.Core.List.{List, [], _∷_, map, List·Memᴰ·head, List·Memᴰ·not-nil, List·Memᴰ·cases-cons, Memᴰ·of-map, Memᴰ·map}
+use mathlib.Core.List.{List, [], _∷_, map, List·Memᴰ·head, List·Memᴰ·not-nil, Memᴰ·of-map}
 use mathlib.Core.Option.{Option, none, some}
 use Prim.Native.Nat.{ℕ, _-_, _*_}
 use native.Mathlib.Omega.{arith}
@@ -11,9 +11,9 @@ use lib.Ieee.{Float, lt}
 use Rattle.scope.specs.Floats.{lowest}
 use Rattle.scope.specs.Lists.{_∈_, isEmpty}
 use Rattle.scope.specs.Allowed.{Allowed}
-use Rattle.scope.specs.Refusals.{Answer, refused, given, unless, firstOf, no9}
+use Rattle.scope.specs.Refusals.{Answer, refused, given, unless}
 use Rattle.scope.specs.Asked.{Shortest}
-use Rattle.scope.specs.Candidates.{candidates, no10}
+use Rattle.scope.specs.Candidates.{candidates}
 use Rattle.scope.specs.Greatest.{numeric, FirstGreatest, kept, taken}
 use Rattle.scope.specs.Grid.{Record, blank, best, trial, trials, ofSome, search}
 use Rattle.scope.specs.Calls.{Split, splitOf}

@@ -9,12 +9,12 @@ use native.Mathlib.Omega.{arith}
 use borrow.Author.Tests.{lt-ltb}
 use lib.Dec.{ltb}
 use lib.Ieee.{Float, lt}
-use lib.ListN.{length, getD, drop, set, length-set, length-append}
+use lib.ListN.{length, getD, set, length-set, length-append}
 use lib.Seq.{getD-append-seam}
 use Rattle.scope.specs.Lists.{holding, upward, select, keep, isEmpty}
 use Rattle.scope.specs.Asked.{Shortest}
 use Rattle.scope.specs.Candidates.{isBarred, rangeSize, candidates, allBarred}
-use Rattle.scope.specs.Grid.{Record, better, best, blank, trial, trials}
+use Rattle.scope.specs.Grid.{Record, better, best, trial, trials}
 use Rattle.scope.proofs.Lists.{select-append}
 use Rattle.rows.proofs.Stored.{store-more}
 use Rattle.optimizer.specs.Records.{tried}

@@ -1,12 +1,12 @@
 -- A slice that is filled from its start, entry by entry. Assumes nothing.
-use mathlib.Core.Path.{_≡_, refl, sym, ap, _∙_}
+use mathlib.Core.Path.{_≡_, _∙_}
 use mathlib.Core.List.{List, [], _∷_, _++_, append-assoc}
 use Prim.Native.Nat.{ℕ, suc, _+_, _-_, _≤_, _<_}
 use native.Mathlib.Nat.{add-zero, add-suc, suc-add}
 use native.Mathlib.Numerals.{add-one}
 use native.Mathlib.Omega.{arith}
 use lib.ListN.{length, getD, set, take, drop, length-append, length-drop}
-use lib.Seq.{sets, drop-cons, set-at, length-front, drop-at, take-at}
+use lib.Seq.{sets, drop-cons, set-at, take-at}
 
 module _ {A : Type 0} where
   -- p stands at the start of l, n entries long; v is stored behind it

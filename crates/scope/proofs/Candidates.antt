@@ -1,12 +1,11 @@
 -- The candidates are the allowed rows, ascending; refusals 9 and 10 are given exactly if there is none. Assumes nothing.
 use mathlib.Core.Path.{_≡_, refl, sym, ap, _∙_}
-use mathlib.Core.Logic.{_↔_, _⊎_, inl, inr, ⊎-elim}
+use mathlib.Core.Logic.{_↔_}
 use mathlib.Core.Bool.{Bool, true, false, cond, not, _&&_, _||_, false≢true, true≢false}
-use mathlib.Core.List.{List, [], _∷_, _++_, List·Memᴰ, List·Memᴰ·head, List·Memᴰ·tail, List·Memᴰ·not-nil}
+use mathlib.Core.List.{List, [], _∷_, _++_, List·Memᴰ, List·Memᴰ·head, List·Memᴰ·tail}
 use Prim.Native.Nat.{ℕ, zero, suc, _+_, _-_, _*_, _≤_, _<_}
-use native.Mathlib.Numerals.{add-one}
 use native.Mathlib.Omega.{arith}
-use borrow.Author.Tests.{ltb-true, leb-true, lt-ltb, le-leb, leb-false, ltb-false}
+use borrow.Author.Tests.{ltb-true, leb-true, lt-ltb, le-leb, leb-false}
 use lib.Dec.{ltb, leb}
 use Rattle.scope.specs.Lists.{upward, keep, select, isEmpty}
 use Rattle.scope.specs.Asked.{Shortest}

@@ -10,7 +10,7 @@ use lib.Ieee.{Float}
 use lib.ListN.{length, getD}
 use Rattle.scope.specs.Floats.{+0, isFinite}
 use Rattle.scope.specs.Greatest.{numeric}
-use Rattle.scope.specs.Lists.{_∈_, Pairwise, Distinct, every}
+use Rattle.scope.specs.Lists.{_∈_, Distinct, every}
 use Rattle.scope.specs.Sorted.{Before, Sorted, Rows, SortedRows, NoNaN}
 use Rattle.scope.specs.Neighbours.{isNearer, insert, ordered, distances, orderOf}
 use Rattle.scope.proofs.Order.{both, lt-co, lt-asym, lt-trans}

@@ -1,19 +1,16 @@
 -- The flat prefix sums are the column sums, row after row, from row 0; and the gain over them is the gain by columns. Assumes nothing.
 use mathlib.Core.Path.{_≡_, refl, sym, ap, _∙_}
-use mathlib.Core.Bool.{Bool, true, false, cond, _||_}
-use mathlib.Core.List.{List, [], _∷_, _++_}
+use mathlib.Core.List.{List, []}
 use Prim.Native.Nat.{ℕ, zero, suc, _+_, _-_, _*_, _≤_, _<_}
-use native.Mathlib.Nat.{add-zero, mul-le-mul-right, add-mul, zero-mul, zero-add, suc-mul, add-comm, add-assoc}
-use native.Mathlib.Numerals.{add-one}
+use native.Mathlib.Nat.{add-zero, mul-le-mul-right, zero-add, suc-mul}
 use native.Mathlib.Omega.{arith}
-use lib.Dec.{eqb}
 use lib.Ieee.{Float, nan}
-use lib.ListN.{length, getD, replicate, length-append, length-replicate, getD-replicate, List·getD-append}
-use lib.Seq.{getD-append-seam, getD-at}
-use Rattle.scope.specs.Floats.{_⊕_, _⊖_, _⊗_, _⊘_, whole, +0}
+use lib.ListN.{length, length-append, length-replicate, getD-replicate, List·getD-append}
+use lib.Seq.{getD-at}
+use Rattle.scope.specs.Floats.{whole, +0}
 use Rattle.scope.specs.Lists.{at}
 use Rattle.scope.specs.Sums.{plus, column, flatSums, prefixSums}
-use Rattle.scope.specs.Gain.{square, term, terms, innerGain, gainOf}
+use Rattle.scope.specs.Gain.{term, terms, innerGain, gainOf}
 use Rattle.scope.specs.Columns.{columnTerms, columnGain}
 use Rattle.scope.specs.Calls.{gainIn}
 

@@ -1,5 +1,5 @@
 -- The gain by column sums: the same as Gain over the flat prefix sums, in document 01's own letters. C i c is C[i] of column c, from row 0 on.
-use mathlib.Core.Bool.{Bool, cond, _||_}
+use mathlib.Core.Bool.{cond, _||_}
 use mathlib.Core.List.{List}
 use Prim.Native.Nat.{ℕ, zero, suc, _-_}
 use lib.Dec.{eqb}

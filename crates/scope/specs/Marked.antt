@@ -1,13 +1,13 @@
 -- Marked cases: M1 to M11, "One statement over a single table proves these of the definitions".
 use mathlib.Core.Path.{_≡_, refl}
-use mathlib.Core.Bool.{Bool, true, false}
-use mathlib.Core.List.{List, [], _∷_, _++_, map, flatten}
+use mathlib.Core.Bool.{true, false}
+use mathlib.Core.List.{List, [], _∷_, map, flatten}
 use mathlib.Core.Option.{Option, none, some}
 use Prim.Native.Nat.{ℕ}
 use Prim.Native.String.{String}
 use lib.IntN.{pos, negsuc}
 use lib.ListN.{length, replicate}
-use lib.Ieee.{Float, fin, binary64, add, sub, mul, div, ofInt, ofBits, toBits, lt, le, eq, isNan}
+use lib.Ieee.{Float, fin, binary64, add, sub, mul, div, ofInt, ofBits, toBits, lt, le, isNan}
 use Rattle.scope.specs.Floats.{whole, _⊘_}
 use Rattle.scope.specs.Lists.{upward, select, every}
 use Rattle.scope.specs.Asked.{Matrix, Settings}
@@ -18,7 +18,7 @@ use Rattle.scope.specs.Sums.{flatSums, prefixSums}
 use Rattle.scope.specs.Gain.{term, terms, innerGain, gainOf}
 use Rattle.scope.specs.Grid.{better, best, trials, search}
 use Rattle.scope.specs.Layers.{Segment, layerLength, layerCount, layerStep, layerStart, layerStop, layerSegments, seeded, layersTotal, stored}
-use Rattle.scope.specs.Tree.{Tree, seedRecords, inside, choice, verdict, grow, grown, treeOf, recordsOf, nodeCount, nodes, cuts, sheet}
+use Rattle.scope.specs.Tree.{seedRecords, inside, choice, verdict, grow, grown, recordsOf, nodeCount, nodes, cuts, sheet}
 use Rattle.scope.specs.Neighbours.{difference, squares, distances, insert, ordered, orderOf, others, neighbours, countOf, predictions}
 use Rattle.scope.specs.Curves.{guesses}
 use Rattle.scope.specs.Permutations.{isPermutation, wrongPermutations, addDeltas, added, reaches, exceeds, counter}

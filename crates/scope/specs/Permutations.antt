@@ -1,10 +1,10 @@
 -- Permutation count.
 use mathlib.Core.Bool.{Bool, true, false, cond, _&&_, _||_, not}
-use mathlib.Core.List.{List, [], _∷_, _++_}
+use mathlib.Core.List.{List, [], _∷_}
 use Prim.Native.Nat.{ℕ, zero, suc, _+_, _-_, _*_}
 use lib.Dec.{ltb, eqb}
 use lib.Ieee.{Float, le}
-use lib.ListN.{length, getD, take, drop}
+use lib.ListN.{length, take, drop}
 use Rattle.scope.specs.Floats.{_⊕_, _⊘_, whole}
 use Rattle.scope.specs.Lists.{at, upward, select, every}
 use Rattle.scope.specs.Refusals.{Test, test, mostPermutations}

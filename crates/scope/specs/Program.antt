@@ -1,11 +1,11 @@
 -- The program: the whole input's bytes to the whole output's bytes.
-use mathlib.Core.Bool.{Bool, true, false, cond, _&&_, _||_, not}
+use mathlib.Core.Bool.{Bool, cond, _||_, not}
 use mathlib.Core.List.{List, [], _∷_, _++_, map}
 use mathlib.Core.Option.{Option, none, some}
 use Prim.Native.Nat.{ℕ, zero, suc, _+_, _-_, _*_}
 use lib.Dec.{ltb, leb, eqb}
 use lib.IntN.{ℤ, pos, negsuc}
-use lib.Ieee.{Float, binary64, ofInt, ofBits, toBits}
+use lib.Ieee.{binary64, ofInt, ofBits, toBits}
 use lib.ListN.{length}
 use Rattle.scope.specs.Lists.{every}
 use Rattle.scope.specs.Asked.{Matrix, Settings}

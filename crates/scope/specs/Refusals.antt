@@ -1,13 +1,13 @@
 -- Refusal numbers, and what a call answers and leaves.
-use mathlib.Core.Bool.{Bool, true, false, cond, not, _&&_, _||_}
-use mathlib.Core.List.{List, [], _∷_, _++_, map}
+use mathlib.Core.Bool.{Bool, true, false, not, _&&_, _||_}
+use mathlib.Core.List.{List, [], _∷_}
 use Prim.Native.Nat.{ℕ, zero, suc, _+_, _-_, _*_}
 use lib.Dec.{ltb, leb, eqb}
 use lib.IntN.{pos, negsuc}
-use lib.ListN.{length, take}
+use lib.ListN.{length}
 use lib.Ieee.{Float, fin, lt, le, isNan}
-use Rattle.scope.specs.Floats.{+0, half, whole, isFinite}
-use Rattle.scope.specs.Lists.{every, isEmpty}
+use Rattle.scope.specs.Floats.{+0, half, isFinite}
+use Rattle.scope.specs.Lists.{every}
 use Rattle.scope.specs.Asked.{Matrix, Shortest}
 
 -- ---- "The lowest number that applies is given."

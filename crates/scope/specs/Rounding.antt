@@ -1,5 +1,5 @@
 -- Rounding helpers.
-use mathlib.Core.Bool.{Bool, true, false, cond}
+use mathlib.Core.Bool.{true, false, cond}
 use Prim.Native.Nat.{ℕ, zero, suc, _+_, _-_, _*_, _/_}
 use lib.Dec.{leb}
 use lib.Ieee.{Float, nan, inf, fin, Format, binary32, up, down, round}

@@ -5,10 +5,9 @@ use mathlib.Core.Option.{Option, none, some}
 use Prim.Native.Nat.{ℕ, zero, suc, _+_, _-_, _*_, _/_, max}
 use lib.Dec.{leb}
 use lib.Ieee.{Float, lt}
-use lib.ListN.{length}
 use Rattle.scope.specs.Lists.{keep}
 use Rattle.scope.specs.Asked.{Shortest}
-use Rattle.scope.specs.Grid.{Record, better, best, search}
+use Rattle.scope.specs.Grid.{Record, best, search}
 use Rattle.scope.specs.Layers.{Segment, one, stored}
 
 -- a run: its rows, the settings, the segments that were searched beforehand, and the gain of a split x of [start, stop)

@@ -1,7 +1,7 @@
 -- What holds where a call for the seeded segments is not refused. Assumes nothing.
 use mathlib.Core.Path.{_≡_}
 use mathlib.Core.Bool.{false}
-use Prim.Native.Nat.{ℕ, _≤_}
+use Prim.Native.Nat.{_≤_}
 use borrow.Author.Tests.{ltb-false}
 use Rattle.scope.specs.Refusals.{wrongLayers}
 use Rattle.scope.specs.Layers.{layersTotal}

@@ -1,18 +1,17 @@
 -- What the walk makes of a number's and of a cell's bytes. Assumes nothing.
 use mathlib.Core.Path.{_≡_, refl, sym, _∙_, ap}
-use mathlib.Core.Bool.{Bool, true, false, cond, _&&_, not, and-true, and-false, false≢true}
+use mathlib.Core.Bool.{true, false, cond, _&&_, not, and-true, and-false, false≢true}
 use mathlib.Core.List.{List, [], _∷_, foldl}
-use mathlib.Core.Option.{Option, none, some}
-use Prim.Native.Nat.{ℕ, zero, suc, _+_, _-_, _*_, _^_, _≤_, _<_}
+use mathlib.Core.Option.{none, some}
+use Prim.Native.Nat.{ℕ, suc, _+_, _-_, _*_, _^_, _≤_, _<_}
 use native.Mathlib.Nat.{pow-suc, pow-le-pow-right}
 use native.Mathlib.Numerals.{add-one}
 use native.Mathlib.Omega.{arith}
 use lib.Dec.{eqb, ltb, leb}
-use lib.IntN.{ℤ}
 use lib.ListN.{length}
 use borrow.Author.Tests.{ne-eqb, lt-ltb, le-ltb, le-leb, lt-leb, ltb-true, ltb-false, leb-true, leb-false, eqb-true, eqb-false}
 use Rattle.scope.specs.Lists.{every}
-use Rattle.scope.specs.Text.{isDigit, hasLeadingZero, isNumber, valueOf, number, positive, negative, cell}
+use Rattle.scope.specs.Text.{isDigit, hasLeadingZero, valueOf, number, positive, cell}
 use Rattle.token.specs.Walk.{digitOf, digitMore, cellMore, asPlain, asNumber, asCell}
 use Rattle.token.specs.declared.Digits.{Digits}
 use Rattle.token.specs.declared.Digits.the-variants.{Empty, Value, Wrong}

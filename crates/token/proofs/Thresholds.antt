@@ -1,8 +1,8 @@
 -- What the walk makes of a threshold's bytes. Assumes nothing.
 use mathlib.Core.Path.{_≡_, refl, _∙_, ap}
-use mathlib.Core.Bool.{Bool, true, false, cond, _&&_, _||_, and-true, and-false}
+use mathlib.Core.Bool.{true, false, cond, _&&_, and-true, and-false}
 use mathlib.Core.List.{List, [], _∷_, foldl}
-use mathlib.Core.Option.{Option, none, some}
+use mathlib.Core.Option.{none, some}
 use Prim.Native.Nat.{ℕ, suc, _+_, _-_, _*_, _^_, _≤_, _<_}
 use native.Mathlib.Nat.{pow-suc, pow-le-pow-right}
 use native.Mathlib.Numerals.{add-one}
@@ -11,7 +11,7 @@ use lib.Dec.{eqb, ltb, leb}
 use lib.ListN.{length}
 use borrow.Author.Tests.{ne-eqb, lt-ltb, le-ltb, le-leb, lt-leb, ltb-true, ltb-false, leb-true, leb-false}
 use Rattle.scope.specs.Lists.{every}
-use Rattle.scope.specs.Text.{isDigit, isHexDigit, hexValue, hexValueOf, threshold}
+use Rattle.scope.specs.Text.{isHexDigit, hexValue, hexValueOf, threshold}
 use Rattle.token.specs.Walk.{hexDigit, placeMore, hexMore, asBits}
 use Rattle.token.specs.declared.Hex.{Hex}
 use Rattle.token.specs.declared.Hex.the-variants.{Places, Wrong}

@@ -1,7 +1,7 @@
 // One field of a line, byte by byte: as a word, as a number or a cell, as a threshold. Inside the library.
 // A function follows its definition of specs/Walk.antt; proofs/ has what the walks come to.
 ghost use mathlib.Core.Path.{_≡_};
-ghost use Prim.Native.Nat.{_<_, _≤_};
+ghost use Prim.Native.Nat.{_<_};
 ghost use Rattle.token.specs.Walk.{firstLetter, awaited as Walk·awaited, wordMore, valueMore, digitOf, digitMore, firstOfCell, cellMore, hexDigit, placeMore, hexMore, fresh as Walk·fresh, tokenMore};
 
 // What the bytes so far are: nothing, a word of the program, the start of one, or neither.

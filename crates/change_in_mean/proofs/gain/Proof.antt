@@ -1,5 +1,4 @@
 -- `gain` meets its contract: 0 at the ends, else the definition's quotient; the three rows lie within the sums.
-use mathlib.Core.Path.{_≡_}
 use Prim.Native.Nat.{ℕ, _+_, _*_, _≤_}
 use native.Mathlib.Omega.{arith}
 use borrow.Author.Tests.{eq-eqb, ne-eqb}

@@ -1,6 +1,6 @@
 -- `most_nodes` meets its contract: the quotient is small, and 0 where there is no row.
-use Prim.Native.Nat.{_-_, _/_, _<_, _≤_}
-use native.Mathlib.Nat.{div-lt-iff-lt-mul, le-trans, mul-le-mul-left}
+use Prim.Native.Nat.{_-_, _/_, _<_}
+use native.Mathlib.Nat.{div-lt-iff-lt-mul}
 use native.Mathlib.Omega.{arith}
 use borrow.Author.Needs.{needs}
 use Rattle.control.proofs.most_nodes.Statement.{statement}

@@ -1,8 +1,7 @@
 -- `minimal_segment_length` meets its contract: 1, 2, or the ceiling of a product that is in range.
 use mathlib.Core.Path.{_≡_, sym, _∙_, ap}
-use mathlib.Core.Bool.{true, false, _&&_}
+use mathlib.Core.Bool.{true, _&&_}
 use Prim.Native.Nat.{_≤_}
-use native.Mathlib.Omega.{arith}
 use borrow.Author.Tests.{not-false}
 use lib.Ieee.{ofBits, lt}
 use Rattle.scope.specs.Floats.{+0, half}

@@ -4,9 +4,9 @@ use mathlib.Core.List.{List}
 use native.Mathlib.Omega.{arith}
 use denote.Ref.{now}
 use lib.Ieee.{Float}
-use lib.ListN.{length, take}
+use lib.ListN.{length}
 use lib.Seq.{length-take-le}
-use Rattle.scope.specs.Refusals.{Answer, given, unless}
+use Rattle.scope.specs.Refusals.{given}
 use Rattle.scope.specs.Gain.{gainOf}
 use Rattle.scope.specs.Grid.{blank, best, trials}
 use Rattle.scope.specs.Calls.{Split, splitOf, gainIn, sumsOf, SearchAsked, searchCall}

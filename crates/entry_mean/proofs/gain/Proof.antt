@@ -1,10 +1,10 @@
 -- `gain` meets its contract: a number, and nothing is told; or the gain, with the sums left.
-use mathlib.Core.Path.{_≡_, refl, sym, _∙_, ap}
+use mathlib.Core.Path.{refl, sym, _∙_, ap}
 use mathlib.Core.List.{List}
 use native.Mathlib.Omega.{arith}
 use denote.Ref.{now}
 use lib.Ieee.{Float}
-use lib.ListN.{length, take}
+use lib.ListN.{length}
 use lib.Seq.{length-take-le}
 use Rattle.scope.specs.Gain.{gainOf}
 use Rattle.scope.specs.Calls.{gainIn, sumsOf, GainAsked, gainCall}

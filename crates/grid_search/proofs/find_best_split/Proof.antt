@@ -1,5 +1,5 @@
 -- `find_best_split` meets its contract: 9 where there is no range, 10 where all of it is barred, else the best.
-use mathlib.Core.Path.{_≡_, ap, _∙_}
+use mathlib.Core.Path.{ap}
 use borrow.Author.Tests.{le-leb, lt-leb}
 use Rattle.scope.specs.Refusals.{given}
 use Rattle.scope.specs.Grid.{Record}

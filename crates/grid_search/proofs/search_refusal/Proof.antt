@@ -2,12 +2,12 @@
 use mathlib.Core.Path.{_≡_, sym, _∙_}
 use mathlib.Core.Bool.{true, false}
 use mathlib.Core.List.{List, [], _∷_}
-use Prim.Native.Nat.{ℕ, _+_, _*_, _≤_}
+use Prim.Native.Nat.{_+_, _*_, _≤_}
 use borrow.Author.Tests.{lt-ltb, le-ltb}
 use denote.Ref.{now}
 use lib.ListN.{take, drop}
 use Rattle.scope.specs.Refusals.{Test, firstOf}
-use Rattle.scope.specs.Calls.{SearchAsked, searchTests, searchRefusal}
+use Rattle.scope.specs.Calls.{searchTests, searchRefusal}
 use Rattle.control.specs.Settings.{shortestOf}
 use Rattle.control.proofs.Clean.{answers, stops, passes, passed}
 use Rattle.control.proofs.Sizes.{Matrix, matrix, inside}

@@ -10,7 +10,7 @@ use Rattle.control.proofs.Follows.{answer-refused, held-refused, answer-given, 
 use Rattle.stored.specs.Flat.{flatRows, gainsOf}
 use Rattle.prepared.specs.Answers.{treeAsked, seedsOf, preparedOf}
 use Rattle.prepared.specs.declared.Prepared.the-variants.{Seeded}
-use Rattle.prepared.proofs.Clean.{TreeClean, tree-clean, tree-seeds}
+use Rattle.prepared.proofs.Clean.{tree-clean, tree-seeds}
 use borrow.Author.Needs.{needs}
 use Rattle.prepared.proofs.prepare.Statement.{statement}
 use Rattle.prepared.proofs.prepare.Tie as tie

@@ -1,5 +1,5 @@
 -- `store_seeded` meets its contract: the sums, and over them the records of the seeded segments.
-use mathlib.Core.Path.{_≡_, sym, _∙_, ap}
+use mathlib.Core.Path.{sym, _∙_, ap}
 use mathlib.Core.List.{List}
 use native.Mathlib.Omega.{arith}
 use denote.Ref.{now}

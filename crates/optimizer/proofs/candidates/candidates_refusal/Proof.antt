@@ -1,7 +1,7 @@
 -- `candidates_refusal` meets its contract: a number of the first tests, or that of the tests left.
 use mathlib.Core.Path.{_≡_, sym, _∙_}
 use mathlib.Core.Bool.{true, false}
-use mathlib.Core.List.{List, [], _∷_, _++_}
+use mathlib.Core.List.{List, [], _∷_}
 use Prim.Native.Nat.{_≤_}
 use borrow.Author.Tests.{lt-ltb, le-ltb}
 use denote.Ref.{now}
@@ -10,7 +10,7 @@ use Rattle.scope.specs.Candidates.{rangeSize}
 use Rattle.scope.specs.Refusals.{Test, firstOf, no1-rows, no2, no5}
 use Rattle.scope.specs.Calls.{CandidatesAsked, candidatesTests, candidatesRefusal}
 use Rattle.control.specs.Settings.{shortestOf}
-use Rattle.control.proofs.Clean.{Passed, passed, answers, stops, passes}
+use Rattle.control.proofs.Clean.{passed, answers, stops, passes}
 use Rattle.control.proofs.Sizes.{inside}
 use borrow.Author.Needs.{needs}
 use Rattle.optimizer.proofs.candidates.candidates_refusal.Statement.{statement}
