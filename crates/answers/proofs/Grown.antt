@@ -15,6 +15,7 @@ use Rattle.scope.specs.Text.{bytes, decimal, line}
 use Rattle.scope.specs.Tree.{Run, Tree, seedRecords, treeOf, recordsOf, nodeCount, cuts, sheet, mostNodes}
 use Rattle.scope.specs.Calls.{countsOf, treeTests, treeRefusal, treeCall}
 use Rattle.scope.specs.Program.{sheetText, judgedText}
+use Rattle.scope.proofs.Never.{never}
 use Rattle.control.proofs.Sizes.{matrix, inside}
 use Rattle.control.proofs.Clean.{passed}
 use Rattle.stored.specs.Flat.{flatRows, gainsOf, recordsIn}
@@ -65,7 +66,7 @@ module _ (g : Given) (cells : List Float) (forbidden : List ℕ) (judged : given
   refused-text k h = rw judged (go (treeNumber g cells forbidden) h)
     where
       go : (j : ℕ) → grown.Refused k ≡ grownOf (unless j (countsOf q)) → line (bytes "refused" ∷ decimal k ∷ []) ≡ judgedText j (treeOf q)
-      go zero h = let z : _≡_ {A = ℕ} 0 1 = cc in absurd (omega arith)
+      go zero h = never (cc)
       go (suc j) h = let e : k ≡ suc j = cc in rw e
 
   no-seeds : seedRecords q ≡ []
@@ -82,7 +83,7 @@ module _ (g : Given) (cells : List Float) (forbidden : List ℕ) (judged : given
     where
       go : (j : ℕ) → treeNumber g cells forbidden ≡ j → grown.Counted counts ≡ grownOf (unless j (countsOf q)) → Free counts
       go zero e h = record { free = e; counts-are = cc }
-      go (suc j) e h = let z : _≡_ {A = ℕ} 0 1 = cc in absurd (omega arith)
+      go (suc j) e h = never (cc)
 
   module _ (free : treeNumber g cells forbidden ≡ 0) where
     record Clean : Type 0 where

@@ -26,9 +26,11 @@ use Rattle.binary_segmentation.specs.declared.tree.Counts.{Counts}
 use Rattle.binary_segmentation.specs.declared.tree.Judged.the-variants.{Uncut, Cut}
 use Rattle.node.specs.Nodes.{toNode, leafOf, cutOf}
 use Rattle.binary_segmentation.specs.Growth.{Lent, stored, judgedOf, behind, behindCut, Judging, Written, Growing, Sound, Fits, Sized}
-use Rattle.demand.proofs.Records.{zero-one, direct-found, one-found}
+use Rattle.demand.proofs.Records.{direct-found, one-found}
 use Rattle.demand.proofs.Inside.{inside-are}
 use Rattle.scope.proofs.Greatest.{first-one}
+use Rattle.scope.proofs.Never.{never}
+use Rattle.scope.proofs.Stored.{one-few}
 use Rattle.demand.proofs.Choice.{choice-of}
 use Rattle.demand.proofs.Sheet.{sheet-node}
 use Rattle.demand.proofs.Room.{count-nodes}
@@ -41,10 +43,10 @@ module _ (q : Run) where
     where
       test : (r : Record) (b : Bool) → lt (q .threshold) (r .gain) ≡ b → cond b (cut r) (uncut (some r)) ≡ cut c → (some r ≡ some c) × (lt (q .threshold) (c .gain) ≡ true)
       test r true t e = let w : r ≡ c = cc in (ap some w, rw w at t)
-      test r false t e = zero-one (cc)
+      test r false t e = never (cc)
 
       go : (o : Option Record) → judged (q .threshold) o ≡ cut c → (o ≡ some c) × (lt (q .threshold) (c .gain) ≡ true)
-      go none e = zero-one (cc)
+      go none e = never (cc)
       go (some r) e = test r (lt (q .threshold) (r .gain)) refl e
 
   pub direct-sound : (start stop : ℕ) (r : Record) → direct q start stop ≡ some r → (t : Float) → lt t (r .gain) ≡ true → (r .start + q .shortest .m ≤ r .split) × (r .split + q .shortest .m < r .stop)
@@ -65,10 +67,6 @@ module _ (q : Run) where
 
   pub one-sound : (start stop : ℕ) → Sound (q .shortest) (one (direct q start stop))
   one-sound start stop r i = direct-sound start stop r (one-found q start stop r i)
-
-  one-few : (o : Option Record) → length (one o) ≤ 1
-  one-few none = omega arith
-  one-few (some r) = omega arith
 
   -- what is made: sound, and at most a record for each node
   record Modest (g : Grown) : Type 0 where
@@ -142,10 +140,10 @@ written-long w = record { rows = put-long (w .records) .0; gains = put-long (w .
 -- ---- what the code's verdict says
 of-uncut : (start stop : ℕ) (n : Counts) (v : Verdict) (d : NodeStruct) (next : Counts) → Uncut d next ≡ judgedOf start stop n v → (o : Option Record) × (v ≡ uncut o) × (d ≡ toNode (leafOf start stop o)) × (next ≡ n)
 of-uncut start stop n (uncut o) d next h = (o, refl, (cc), (cc))
-of-uncut start stop n (cut c) d next h = zero-one (cc)
+of-uncut start stop n (cut c) d next h = never (cc)
 
 of-cut : (start stop : ℕ) (n : Counts) (v : Verdict) (c : GainRecord) (next : Counts) → Cut c next ≡ judgedOf start stop n v → (v ≡ cut (toRecord c)) × (next ≡ n)
-of-cut start stop n (uncut o) c next h = zero-one (cc)
+of-cut start stop n (uncut o) c next h = never (cc)
 of-cut start stop n (cut r) c next h = let w : c ≡ fromRecord r = cc in (ap (λ (x : GainRecord). cut (toRecord x)) (sym w), (cc))
 
 -- a shorter stop asks less
@@ -233,12 +231,12 @@ module _ (q : Run) (start stop : ℕ) (at : Counts) (l : Lent) (fits : Fits q st
 
       -- the records so far, once the segment's own is appended
       stored-left : stored l₁ (first .records) ≡ rs ++ d
-      stored-left = rw first-is (put-read (omega (arith, room-here .0, one-few q (direct q start stop))) (omega (arith, room-here .1, one-few q (direct q start stop))) (j .put))
+      stored-left = rw first-is (put-read (omega (arith, room-here .0, one-few (direct q start stop))) (omega (arith, room-here .1, one-few (direct q start stop))) (j .put))
 
       pub fits-left : Fits q start split first l₁
       fits-left =
           let o = opened in
-          let few = one-few q (direct q start stop) in
+          let few = one-few (direct q start stop) in
           let m = modest q (o .k) (rs ++ d) start split in
           let s = split-within in
           rw first-is
@@ -271,7 +269,7 @@ module _ (q : Run) (start stop : ℕ) (at : Counts) (l : Lent) (fits : Fits q st
             let o = opened in
             let m = modest q (o .k) (rs ++ d) start split in
             let w = left-by (o .k) (omega (arith, o .enough, split-within)) in
-            (omega (arith, o .rows-fit, m .few, w .records .told, one-few q (direct q start stop)), omega (arith, o .gains-fit, m .few, w .records .told, one-few q (direct q start stop)))
+            (omega (arith, o .rows-fit, m .few, w .records .told, one-few (direct q start stop)), omega (arith, o .gains-fit, m .few, w .records .told, one-few (direct q start stop)))
 
         -- there is room for the cut, the node, and the right part
         pub fits-cut : n₂ .cuts < length (l₂ .cuts)
@@ -297,8 +295,8 @@ module _ (q : Run) (start stop : ℕ) (at : Counts) (l : Lent) (fits : Fits q st
                 sound = rw e (sound-append q (rs ++ d) _ (sound-append q rs d (fits .sound) (one-sound q start stop)) (m .sound));
                 fuel = o .k;
                 enough = omega (arith, o .enough, split-within);
-                room-rows = rw e (omega (arith, o .rows-fit, m .few, w .records .told, one-few q (direct q start stop), rows-long, long .rows));
-                room-gains = rw e (omega (arith, o .gains-fit, m .few, w .records .told, one-few q (direct q start stop), gains-long, long .gains));
+                room-rows = rw e (omega (arith, o .rows-fit, m .few, w .records .told, one-few (direct q start stop), rows-long, long .rows));
+                room-gains = rw e (omega (arith, o .gains-fit, m .few, w .records .told, one-few (direct q start stop), gains-long, long .gains));
                 room-nodes = rw (e, length-set) (omega (arith, o .nodes-fit, w .next-node, long .nodes));
                 room-cuts = rw (e, length-set) (omega (arith, o .cuts-fit, w .next-cut, long .cuts));
               }

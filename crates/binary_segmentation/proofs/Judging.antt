@@ -1,21 +1,18 @@
 -- A segment is judged: by what its search finds, and by its choice. Assumes nothing.
-use mathlib.Core.Path.{_≡_, refl, sym, _∙_, ap}
+use mathlib.Core.Path.{_≡_, refl, sym, _∙_}
 use mathlib.Core.Bool.{true, false}
 use mathlib.Core.List.{List, [], _∷_}
 use mathlib.Core.Option.{none, some}
 use Prim.Native.Nat.{ℕ, _*_}
-use native.Mathlib.Omega.{arith}
 use lib.Ieee.{Float, lt}
 use lib.Seq.{sets}
 use Rattle.scope.specs.Grid.{Record, best}
 use Rattle.scope.specs.Tree.{Run, direct, inside, choice, verdict}
-use Rattle.scope.specs.Refusals.{Answer, refused, given}
-use Rattle.scope.specs.Calls.{Split}
 use Rattle.rows.specs.declared.Position.{Position}
 use Rattle.optimizer.specs.declared.optimizer_result.BestSplit.{BestSplit}
 use Rattle.optimizer.specs.declared.optimizer_result.BestSplit.the-variants.{Found, Refused}
 use Rattle.optimizer.specs.Records.{fromRecord, bestSplitOf, searched}
-use Rattle.optimizer.proofs.Found.{found-search, refused-search}
+use Rattle.optimizer.proofs.Answered.{found-record, refused-none}
 use Rattle.stored.specs.Flat.{flatRows, gainsOf, recordsIn}
 use Rattle.binary_segmentation.specs.declared.tree.Counts.{Counts}
 use Rattle.binary_segmentation.specs.declared.tree.Judged.the-variants.{Uncut, Cut}
@@ -23,23 +20,12 @@ use Rattle.node.specs.Nodes.{toNode, leafOf}
 use Rattle.binary_segmentation.specs.Growth.{behind, Judging}
 
 -- what the search's answer says of the direct record
-given-found : (a : Answer Split) (p : Position) (g : Float) → bestSplitOf a ≡ Found p g → a ≡ given (record { split = p .0; gain = g })
-given-found (refused k) p g h = absurd (let z : _≡_ {A = ℕ} 0 1 = cc in omega arith)
-given-found (given s) p g h =
-    let i : _≡_ {A = Position} (record { 0 = s .split }) p = cc in
-    let j : s .gain ≡ g = cc in
-    λ k. given (record { split = i k .0; gain = j k })
-
-refused-refused : (a : Answer Split) (k : ℕ) → bestSplitOf a ≡ Refused k → a ≡ refused k
-refused-refused (refused j) k h = ap refused (cc)
-refused-refused (given s) k h = absurd (let z : _≡_ {A = ℕ} 0 1 = cc in omega arith)
-
 module _ (q : Run) (start stop : ℕ) (r : BestSplit) (answer : r ≡ bestSplitOf (searched (q .gain) (q .shortest) (q .forbidden) start stop)) where
   pub direct-some : (p : Position) (g : Float) → r ≡ Found p g → direct q start stop ≡ some (record { start = start; stop = stop; split = p .0; gain = g })
-  direct-some p g h = found-search (q .gain) (q .shortest) (q .forbidden) start stop _ (given-found _ p g (sym answer ∙ h))
+  direct-some p g h = found-record (q .gain) (q .shortest) (q .forbidden) start stop p g (sym answer ∙ h)
 
   pub direct-none : (k : ℕ) → r ≡ Refused k → direct q start stop ≡ none
-  direct-none k h = refused-search (q .gain) (q .shortest) (q .forbidden) start stop k (refused-refused _ k (sym answer ∙ h))
+  direct-none k h = refused-none (q .gain) (q .shortest) (q .forbidden) start stop k (sym answer ∙ h)
 
 module _ (q : Run) (start stop : ℕ) (at : Counts) (rows : List ℕ) (gains : List Float) where
   -- nothing is found

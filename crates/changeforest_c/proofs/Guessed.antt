@@ -13,11 +13,11 @@ use Rattle.scope.specs.Refusals.{Answer, refused, given, unless, firstOf}
 use Rattle.scope.specs.Candidates.{candidates}
 use Rattle.scope.specs.Curves.{isMember, guesses, aboveLast, rising, quarters, quartersOf}
 use Rattle.scope.specs.Calls.{GuessesAsked, guessesTests, guessesAnswer}
+use Rattle.scope.proofs.Never.{never}
 use Rattle.two_step_search.specs.Guessed.{rowsOf, guessesIn}
 use Rattle.two_step_search.specs.declared.Guesses.{Guesses}
 use Rattle.entry_two_step.specs.Answers.{guessedOf}
 use Rattle.entry_two_step.specs.declared.Guessed.the-variants as guessed
-use Rattle.changeforest_c.proofs.Heard.{never}
 
 abbrev pub Few : Answer (List ℕ) → Type 0
 Few (refused k) = Unit {0}

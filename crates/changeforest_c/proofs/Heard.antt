@@ -1,13 +1,10 @@
 -- What an enum's case tells of the definition's answer: a value was given, or the number. Assumes nothing.
 use mathlib.Core.Path.{_≡_, ap}
 use Prim.Native.Nat.{ℕ}
-use native.Mathlib.Omega.{arith}
 use lib.Ieee.{Float}
 use Rattle.scope.specs.Refusals.{Answer, refused, given}
-use Rattle.scope.specs.Calls.{Split, Tested}
-use Rattle.rows.specs.declared.Position.{Position}
-use Rattle.optimizer.specs.Records.{bestSplitOf}
-use Rattle.optimizer.specs.declared.optimizer_result.BestSplit.the-variants as best
+use Rattle.scope.specs.Calls.{Tested}
+use Rattle.scope.proofs.Never.{never}
 use Rattle.entry_lengths.specs.Answers.{lengthOf}
 use Rattle.entry_mean.specs.Answers.{countOf, gainedOf}
 use Rattle.entry_curves.specs.Answers.{permutedOf}
@@ -16,9 +13,6 @@ use Rattle.entry_curves.specs.declared.Permuted.the-variants as permuted
 use Rattle.entry_lengths.specs.declared.Length.the-variants as «length»
 use Rattle.entry_mean.specs.declared.Count.the-variants as count
 use Rattle.entry_mean.specs.declared.Gained.the-variants as gained
-
-pub never : {X : Type 0} → _≡_ {A = ℕ} 0 1 → X
-never z = absurd (omega arith)
 
 pub length-given : (a : Answer ℕ) (m : ℕ) → «length».Rows m ≡ lengthOf a → a ≡ given m
 length-given (refused k) m e = never (cc)
@@ -43,17 +37,6 @@ gained-given (given h) g e = let w : h ≡ g = cc in ap given w
 pub gained-refused : (a : Answer Float) (k : ℕ) → gained.Refused k ≡ gainedOf a → a ≡ refused k
 gained-refused (refused j) k e = let w : j ≡ k = cc in ap refused w
 gained-refused (given h) k e = never (cc)
-
-pub best-given : (a : Answer Split) (p : Position) (g : Float) → best.Found p g ≡ bestSplitOf a → a ≡ given (record { split = p .0; gain = g })
-best-given (refused k) p g e = never (cc)
-best-given (given s) p g e =
-    let w : _≡_ {A = Position} (record { 0 = s .split }) p = cc in
-    let v : s .gain ≡ g = cc in
-    ap given (λ i. record { split = w i .0; gain = v i })
-
-pub best-refused : (a : Answer Split) (k : ℕ) → best.Refused k ≡ bestSplitOf a → a ≡ refused k
-best-refused (refused j) k e = let w : j ≡ k = cc in ap refused w
-best-refused (given s) k e = never (cc)
 
 -- the test's parts
 abbrev pub testedIn : TestResult → Tested

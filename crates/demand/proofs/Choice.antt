@@ -13,8 +13,9 @@ use Rattle.scope.specs.Grid.{Record, best}
 use Rattle.scope.specs.Tree.{Run, direct, seedRecords, inside, chosen, choice}
 use Rattle.scope.proofs.Order.{both, lt-co}
 use Rattle.scope.proofs.Greatest.{best-is-first, first-one, first-greatest, first-numeric}
+use Rattle.scope.proofs.Never.{never}
 use Rattle.demand.specs.Offered.{Offered, own, seeded}
-use Rattle.demand.proofs.Records.{zero-one, direct-found, direct-numeric, direct-above, direct-some, Seeded, seeds-are, seeds-all}
+use Rattle.demand.proofs.Records.{direct-found, direct-numeric, direct-above, direct-some, Seeded, seeds-are, seeds-all}
 use Rattle.demand.proofs.Inside.{inside-are, inside-all}
 
 -- not w < y, and not y < z, and so not w < z, if y is numeric
@@ -40,7 +41,7 @@ module _ (q : Run) (rs : List Record) (start stop : ℕ) where
   choice-of c h = go (direct q start stop) refl h
     where
       go : (o : Option Record) → direct q start stop ≡ o → chosen o (inside start stop rs) ≡ some c → (d : Record) × (direct q start stop ≡ some d) × FirstGreatest d (inside start stop rs) c
-      go none e h = zero-one (cc)
+      go none e h = never (cc)
       go (some d) e h = let w : best d (inside start stop rs) ≡ c = cc in (d, e, rw w at (best-is-first d (inside start stop rs)))
 
 -- ---- over the seeds' records

@@ -11,9 +11,10 @@ use Rattle.scope.specs.Greatest.{numeric}
 use Rattle.scope.specs.Grid.{Record}
 use Rattle.scope.specs.Tree.{Run, seedRecords, choice, uncut, cut, judged, verdict}
 use Rattle.scope.proofs.Order.{both, lt-co}
+use Rattle.scope.proofs.Never.{never}
 use Rattle.demand.specs.Reached.{ruling, isCut, CutBy}
 use Rattle.demand.specs.Offered.{Offered, Greatest}
-use Rattle.demand.proofs.Records.{zero-one, Found, direct-found}
+use Rattle.demand.proofs.Records.{Found, direct-found}
 use Rattle.demand.proofs.Choice.{Source, itself, seed, choice-source, choice-numeric, choice-above, source-offered, offered-choice}
 
 -- what is numeric and not above minus infinity is minus infinity
@@ -58,7 +59,7 @@ module _ (q : Run) (start stop : ℕ) where
   uncut-choice o h = go (choice q (seedRecords q) start stop) refl
     where
       test : (c : Record) (b : Bool) → choice q (seedRecords q) start stop ≡ some c → lt (q .threshold) (c .gain) ≡ b → some c ≡ o
-      test c true e t = let w = ruling-by c true e t in zero-one (cc)
+      test c true e t = let w = ruling-by c true e t in never (cc)
       test c false e t = let w = ruling-by c false e t in (cc)
 
       go : (p : Option Record) → choice q (seedRecords q) start stop ≡ p → p ≡ o

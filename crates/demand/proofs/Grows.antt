@@ -4,12 +4,12 @@ use mathlib.Core.Option.{Option}
 use Prim.Native.Nat.{ℕ}
 use Rattle.scope.specs.Grid.{Record}
 use Rattle.scope.specs.Tree.{Run, Verdict, uncut, cut, Tree, leaf, node}
+use Rattle.scope.proofs.Never.{never}
 use Rattle.demand.specs.Reached.{ruling, Reached, run, left, right}
 use Rattle.demand.specs.Grows.{Grows, asLeaf, asNode}
-use Rattle.demand.proofs.Records.{zero-one}
 
 pub uncut-cut : {X : Type 0} (v : Verdict) (o : Option Record) (r : Record) → v ≡ uncut o → v ≡ cut r → X
-uncut-cut v o r h k = zero-one (cc)
+uncut-cut v o r h k = never (cc)
 
 pub cut-one : (v : Verdict) (r z : Record) → v ≡ cut r → v ≡ cut z → r ≡ z
 cut-one v r z h k = cc

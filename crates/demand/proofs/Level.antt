@@ -20,6 +20,7 @@ use Rattle.scope.specs.Grid.{Record, blank, trial, trials}
 use Rattle.scope.specs.Tree.{Run, direct, seedRecords, inside, cut, Tree, nodeCount, mostNodes}
 use Rattle.scope.proofs.Order.{both, lt-irrefl, lt-numeric}
 use Rattle.scope.proofs.Candidates.{candidates-ascend}
+use Rattle.scope.proofs.Never.{never}
 use Rattle.demand.specs.Reached.{ruling, isCut}
 use Rattle.demand.specs.Offered.{own}
 use Rattle.demand.specs.Grows.{Grows, asLeaf, asNode}
@@ -46,8 +47,8 @@ not-below lo (x ∷ xs) y a i = ⊎-elim (λ e. omega (arith, a .0)) (λ j. omeg
 
 -- no pair stands in an empty list
 no-pair : (ps : List ℕ) (a b : ℕ) → ps ≡ [] → Pair a b ps → ⊥
-no-pair ps a b e (Pair.here {ps = qs}) = let z : _≡_ {A = ℕ} 0 1 = cc in omega arith
-no-pair ps a b e (Pair.later {c = c} {d = d} {ps = qs} p) = let z : _≡_ {A = ℕ} 0 1 = cc in omega arith
+no-pair ps a b e (Pair.here {ps = qs}) = never (cc)
+no-pair ps a b e (Pair.later {c = c} {d = d} {ps = qs} p) = never (cc)
 
 module _ (q : Run) (least : 1 ≤ q .shortest .m) (free : q .forbidden ≡ []) (g : Float)
     (all : (start stop x : ℕ) → start < x → x < stop → stop ≤ q .n → q .gain start stop x ≡ g)

@@ -5,7 +5,6 @@ use mathlib.Core.Bool.{true, false}
 use mathlib.Core.List.{List, [], _∷_, List·Memᴰ·head, List·Memᴰ·tail, List·Memᴰ·not-nil, List·Memᴰ·cases-cons, List·Memᴰ·append-cases, Memᴰ·append-left, Memᴰ·append-right, List·Memᴰ·eq-of-singleton, Memᴰ·of-map, Memᴰ·map}
 use mathlib.Core.Option.{Option, none, some}
 use Prim.Native.Nat.{ℕ}
-use native.Mathlib.Omega.{arith}
 use lib.Ieee.{Float, nan, inf, fin, lt}
 use Rattle.scope.specs.Lists.{_∈_}
 use Rattle.scope.specs.Floats.{lowest}
@@ -18,9 +17,7 @@ use Rattle.scope.specs.Tree.{Run, direct, seedRecords}
 use Rattle.scope.proofs.Order.{both}
 use Rattle.scope.proofs.Candidates.{candidates-are}
 use Rattle.scope.proofs.Greatest.{best-is-first, first-one, first-greatest, first-numeric}
-
-pub zero-one : {X : Type 0} → _≡_ {A = ℕ} 0 1 → X
-zero-one z = absurd (omega arith)
+use Rattle.scope.proofs.Never.{never}
 
 pub not-above-lowest : (t : Float) → lt t lowest ≡ false
 unfolding lt
@@ -65,7 +62,7 @@ module _ (q : Run) (start stop : ℕ) where
   direct-first r h = go tries h (best-is-first (blank start stop) tries)
     where
       go : (l : List Record) → ofSome (blank start stop) l ≡ some r → FirstGreatest (blank start stop) l (best (blank start stop) l) → FirstGreatest (blank start stop) l r
-      go [] h f = zero-one (cc)
+      go [] h f = never (cc)
       go (x ∷ l) h f = let w : best (blank start stop) (x ∷ l) ≡ r = cc in rw w at f
 
   module _ (r : Record) (is : direct q start stop ≡ some r) where

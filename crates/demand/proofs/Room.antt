@@ -1,7 +1,7 @@
 -- How many nodes, cuts and records there are at most. Assumes nothing.
 use mathlib.Core.Path.{_≡_, refl, _∙_, ap}
 use mathlib.Core.List.{List, [], _∷_, _++_}
-use mathlib.Core.Option.{Option, none, some}
+use mathlib.Core.Option.{Option}
 use Prim.Native.Nat.{ℕ, zero, suc, _+_, _-_, _*_, _/_, _≤_}
 use native.Mathlib.Nat.{le-div-iff-mul-le}
 use native.Mathlib.Numerals.{add-one}
@@ -11,6 +11,7 @@ use lib.ListN.{length, length-append}
 use Rattle.scope.specs.Grid.{Record}
 use Rattle.scope.specs.Layers.{Segment, layerCount, layerSegments, seeded, layersTotal, one, stored}
 use Rattle.scope.specs.Tree.{Run, direct, seedRecords, Tree, leaf, node, nodes, nodeCount, cuts, sheet, mostNodes}
+use Rattle.scope.proofs.Stored.{one-few}
 use Rattle.demand.specs.Grows.{Grows, directs}
 use Rattle.demand.proofs.Sheet.{sheet-node, spaced-least, sheet-spaced}
 
@@ -39,10 +40,6 @@ module _ (q : Run) (least : 1 ≤ q .shortest .m) (T : Tree) (whole : Grows q 0 
 
   pub cuts-few : length (sheet T) ≤ (mostNodes (q .n) (q .shortest) - 1) / 2
   cuts-few = omega (arith, nodes-few, count-sheet T)
-
-one-few : (o : Option Record) → length (one o) ≤ 1
-one-few none = omega arith
-one-few (some r) = omega arith
 
 directs-few : (q : Run) (t : Tree) → length (directs q t) ≤ nodeCount t
 unfolding directs nodeCount

@@ -15,6 +15,7 @@ use Rattle.scope.specs.Layers.{seeded, layersTotal}
 use Rattle.scope.specs.Tree.{Run, direct, seedRecords, grown, recordsOf, treeOf, nodes, sheet}
 use Rattle.scope.specs.Calls.{sumsOf, sumsRoom, TreeAsked, runOf, countsOf, treeRefusal, treeCall}
 use Rattle.scope.proofs.Sums.{length-flat}
+use Rattle.scope.proofs.Never.{never}
 use Rattle.control.specs.Settings.{settingsOf}
 use Rattle.control.specs.declared.Settings.{Settings}
 use Rattle.control.proofs.Follows.{answer-refused, held-refused, answer-given, held-given}
@@ -40,12 +41,12 @@ told-on {A} xs ys l = rw (length-append xs ys) (ap (λ (t : List A). (xs ++ ys) 
 
 -- a number was given, or what stands is counted
 unprepared : (z sums count k : ℕ) → Unprepared k ≡ preparedOf sums (unless z count) → (k ≡ z) × (k ≡ 0 → ⊥)
-unprepared zero sums count k h = absurd (let e : _≡_ {A = ℕ} 0 1 = cc in omega arith)
+unprepared zero sums count k h = never (cc)
 unprepared (suc z) sums count k h = let e : k ≡ suc z = cc in (e, λ w. omega arith)
 
 counted : (z sums count len found : ℕ) → Seeded len found ≡ preparedOf sums (unless z count) → (0 ≡ z) × (len ≡ sums) × (found ≡ count)
 counted zero sums count len found h = (refl, cc, cc)
-counted (suc z) sums count len found h = absurd (let e : _≡_ {A = ℕ} 0 1 = cc in omega arith)
+counted (suc z) sums count len found h = never (cc)
 
 -- the call, with the slices lent; front is what stands in the first three once it is prepared
 module _ (x : Matrix) (s : Settings) (forbidden : List ℕ) (layers : List Float) (before : Slices) (front : RecordSlices) where

@@ -107,28 +107,29 @@ abbrev next : List Slot → List Slot
 next [] = []
 next (s ∷ vs) = vs
 
-one-type : {σ τ : Ty} → some σ ≡ some τ → σ ≡ τ
-one-type e = cc
+-- ---- what is found is one thing, and not nothing
+pub some-one : {X : Type 0} {x y : X} → some x ≡ some y → x ≡ y
+some-one e = cc
 
-nothing-is : {X : Type 0} {x : X} → _≡_ {A = Option X} none (some x) → ⊥
-nothing-is e = let z : _≡_ {A = ℕ} 0 1 = cc in omega arith
+pub none-some : {X : Type 0} {x : X} → _≡_ {A = Option X} none (some x) → ⊥
+none-some e = let z : _≡_ {A = ℕ} 0 1 = cc in omega arith
 
 -- what a look into the table says
 pub full-slot : (s : Slot) {v : Val} → inside s ≡ some v → s ≡ full v
-full-slot empty e = absurd (nothing-is e)
+full-slot empty e = absurd (none-some e)
 full-slot (full u) e = ap full cc
-full-slot away e = absurd (nothing-is e)
+full-slot away e = absurd (none-some e)
 
 pub free-type : {X : Type 0} (s : Slot) (x : Option X) {y : X} → unlessAway s x ≡ some y → x ≡ some y
 free-type empty x e = e
 free-type (full v) x e = e
-free-type away x e = absurd (nothing-is e)
+free-type away x e = absurd (none-some e)
 
 pub home : {X : Type 0} (vs : List Slot) (x : Option X) {y : X} → ifHome vs x ≡ some y → AllHome vs × (x ≡ some y)
 home [] x e = (tt, e)
 home (empty ∷ vs) x e = home vs x e
 home (full v ∷ vs) x e = home vs x e
-home (away ∷ vs) x e = absurd (nothing-is e)
+home (away ∷ vs) x e = absurd (none-some e)
 
 abbrev pub cell : Ty → ℕ → Slot → Fml
 cell τ b empty = froom τ b zero
@@ -142,8 +143,8 @@ module _ {M : Type 1} (𝓤 : URA M) where
 
 -- local i's type and place, in the environment
 pub env-at : {M : Type 1} (𝓤 : URA M) (H : Heap 𝓤) (ls : List Local) (pl : Places ls) (i : ℕ) {τ : Ty} → typeAt ls i ≡ some τ → getD (env ls pl) i (noLocal 𝓤 H) ≡ (τ, placeAt ls pl i)
-env-at 𝓤 H [] pl i e = absurd (nothing-is e)
-env-at 𝓤 H (local σ h ∷ ls) pl zero {τ} e = λ k. (one-type e k, pl .0)
+env-at 𝓤 H [] pl i e = absurd (none-some e)
+env-at 𝓤 H (local σ h ∷ ls) pl zero {τ} e = λ k. (some-one e k, pl .0)
 env-at 𝓤 H (local σ h ∷ ls) pl (suc i) e = env-at 𝓤 H ls (pl .1) i e
 
 module _ {M : Type 1} (𝓤 : URA M) (H : Heap 𝓤) (A : Atoms 𝓤) where
@@ -156,17 +157,17 @@ module _ {M : Type 1} (𝓤 : URA M) (H : Heap 𝓤) (A : Atoms 𝓤) where
   pub nth-cell : (Δ : List (Item 𝓤)) (ls : List Local) (pl : Places ls) (vs : List Slot) (i : ℕ) {τ : Ty} → typeAt ls i ≡ some τ
       → nth 𝓤 H A (pos Δ i) (Δ ++ cells 𝓤 ls pl vs) ≡ ‵ (cell τ (placeAt ls pl i) (slotAt vs i))
   nth-cell (d ∷ Δ) ls pl vs i e = nth-cell Δ ls pl vs i e
-  nth-cell [] [] pl vs i e = absurd (nothing-is e)
-  nth-cell [] (local σ h ∷ ls) pl vs zero e = ap (λ (τ : Ty). ‵ (cell τ (pl .0) (slotAt vs zero))) (one-type e)
+  nth-cell [] [] pl vs i e = absurd (none-some e)
+  nth-cell [] (local σ h ∷ ls) pl vs zero e = ap (λ (τ : Ty). ‵ (cell τ (pl .0) (slotAt vs zero))) (some-one e)
   nth-cell [] (local σ h ∷ ls) pl [] (suc i) e = nth-cell [] ls (pl .1) [] i e
   nth-cell [] (local σ h ∷ ls) pl (v ∷ vs) (suc i) e = nth-cell [] ls (pl .1) vs i e
 
   pub put-cell : (Δ : List (Item 𝓤)) (ls : List Local) (pl : Places ls) (vs : List Slot) (i : ℕ) (s : Slot) {τ : Ty} → typeAt ls i ≡ some τ
       → put 𝓤 H A (pos Δ i) (‵ (cell τ (placeAt ls pl i) s)) (Δ ++ cells 𝓤 ls pl vs) ≡ Δ ++ cells 𝓤 ls pl (sets i s vs)
   put-cell (d ∷ Δ) ls pl vs i s e = ap (λ (Γ : List (Item 𝓤)). d ∷ Γ) (put-cell Δ ls pl vs i s e)
-  put-cell [] [] pl vs i s e = absurd (nothing-is e)
-  put-cell [] (local σ h ∷ ls) pl [] zero s e = ap (λ (τ : Ty). ‵ (cell τ (pl .0) s) ∷ ‵ (fdies σ (pl .0)) ∷ cells 𝓤 ls (pl .1) []) (sym (one-type e))
-  put-cell [] (local σ h ∷ ls) pl (w ∷ vs) zero s e = ap (λ (τ : Ty). ‵ (cell τ (pl .0) s) ∷ ‵ (fdies σ (pl .0)) ∷ cells 𝓤 ls (pl .1) vs) (sym (one-type e))
+  put-cell [] [] pl vs i s e = absurd (none-some e)
+  put-cell [] (local σ h ∷ ls) pl [] zero s e = ap (λ (τ : Ty). ‵ (cell τ (pl .0) s) ∷ ‵ (fdies σ (pl .0)) ∷ cells 𝓤 ls (pl .1) []) (sym (some-one e))
+  put-cell [] (local σ h ∷ ls) pl (w ∷ vs) zero s e = ap (λ (τ : Ty). ‵ (cell τ (pl .0) s) ∷ ‵ (fdies σ (pl .0)) ∷ cells 𝓤 ls (pl .1) vs) (sym (some-one e))
   put-cell [] (local σ h ∷ ls) pl [] (suc i) s e = ap (λ (Γ : List (Item 𝓤)). ‵ (froom σ (pl .0) zero) ∷ ‵ (fdies σ (pl .0)) ∷ Γ) (put-cell [] ls (pl .1) [] i s e)
   put-cell [] (local σ h ∷ ls) pl (w ∷ vs) (suc i) s e = ap (λ (Γ : List (Item 𝓤)). ‵ (cell σ (pl .0) w) ∷ ‵ (fdies σ (pl .0)) ∷ Γ) (put-cell [] ls (pl .1) vs i s e)
 

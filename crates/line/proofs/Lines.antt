@@ -13,6 +13,7 @@ use borrow.Author.Tests.{lt-ltb, le-ltb, le-leb, lt-leb, ltb-true, ltb-false, le
 use Rattle.scope.specs.Refusals.{outside}
 use Rattle.scope.specs.Text.{number, cell, consSome, cellsOf, threshold}
 use Rattle.scope.specs.Program.{Line, cfgLine, noLine, rowLine, malformed, cfgOf, noOf, rowOf, cfgFields, noFields, byWord, isReading}
+use Rattle.scope.proofs.Never.{never}
 use Rattle.token.specs.Walk.{wordMore}
 use Rattle.token.specs.declared.Word.{Word}
 use Rattle.token.specs.declared.Word.the-variants.{Empty, C, Cf, Cfg, N, No, R, Ro, Row, Other}
@@ -154,8 +155,8 @@ rows (f ∷ fs) k g a q h =
 
 -- as many cells as fields
 cons-length : (o : Option ℤ) (os : Option (List ℤ)) (n : ℕ) → ((cs : List ℤ) → os ≡ some cs → length cs ≡ n) → (cs : List ℤ) → consSome o os ≡ some cs → length cs ≡ suc n
-cons-length none os n h cs e = let z : _≡_ {A = ℕ} 0 1 = cc in absurd (omega arith)
-cons-length (some c) none n h cs e = let z : _≡_ {A = ℕ} 0 1 = cc in absurd (omega arith)
+cons-length none os n h cs e = never (cc)
+cons-length (some c) none n h cs e = never (cc)
 cons-length (some c) (some ds) n h cs e = let z : c ∷ ds ≡ cs = cc in sym (ap length z) ∙ ap suc (h ds refl)
 
 cells-length : (fs : List (List ℕ)) (cs : List ℤ) → cellsOf fs ≡ some cs → length cs ≡ length fs

@@ -5,7 +5,6 @@ use mathlib.Core.Bool.{Bool, true, false, cond}
 use mathlib.Core.List.{List, [], _∷_, map, List·Memᴰ·head, List·Memᴰ·not-nil, Memᴰ·of-map}
 use mathlib.Core.Option.{Option, none, some}
 use Prim.Native.Nat.{ℕ, _-_, _*_}
-use native.Mathlib.Omega.{arith}
 use lib.Dec.{leb}
 use lib.Ieee.{Float, lt}
 use Rattle.scope.specs.Floats.{lowest}
@@ -20,6 +19,7 @@ use Rattle.scope.specs.Calls.{Split, splitOf}
 use Rattle.scope.proofs.Candidates.{candidates-are, refusal-9-10}
 use Rattle.scope.proofs.Greatest.{best-is-first, not-above}
 use Rattle.scope.proofs.Order.{both, lt-irrefl}
+use Rattle.scope.proofs.Never.{never}
 use Rattle.optimizer.specs.Records.{searched}
 use Rattle.optimizer.proofs.Walk.{best-ends}
 
@@ -61,7 +61,7 @@ module _ (gain : ℕ → ℕ → ℕ → Float) (short : Shortest) (ps : List �
   found-search s h = search-is ∙ go (candidates short ps start stop) (sym answer-is ∙ h)
     where
       go : (l : List ℕ) → answered l ≡ given s → recorded l ≡ some (recordOf start stop s)
-      go [] e = let (k, w) = two (leb (stop - start) (2 * short .m)) (splitOf (best (blank start stop) [])) in let z : _≡_ {A = ℕ} 0 1 = cc in absurd (omega arith)
+      go [] e = let (k, w) = two (leb (stop - start) (2 * short .m)) (splitOf (best (blank start stop) [])) in never (cc)
       go (x ∷ l) e =
           let r = best (blank start stop) (map (trial gain start stop) (x ∷ l)) in
           let (i, j) = best-ends gain start stop (blank start stop) (x ∷ l) refl refl in
@@ -74,7 +74,7 @@ module _ (gain : ℕ → ℕ → ℕ → Float) (short : Shortest) (ps : List �
     where
       go : (l : List ℕ) → answered l ≡ refused k → recorded l ≡ none
       go [] e = refl
-      go (x ∷ l) e = let z : _≡_ {A = ℕ} 0 1 = cc in absurd (omega arith)
+      go (x ∷ l) e = never (cc)
 
   -- ---- "a refusal 9 or 10 exactly if no row is allowed"
   pub refused-exactly : ((k : ℕ) × (answer ≡ refused k)) ↔ ((x : ℕ) → Allowed short ps start stop x → ⊥)
@@ -85,7 +85,7 @@ module _ (gain : ℕ → ℕ → ℕ → Float) (short : Shortest) (ps : List �
     where
       there : (l : List ℕ) (k : ℕ) → answered l ≡ refused k → (x : ℕ) → x ∈ l → ⊥
       there [] k e x i = List·Memᴰ·not-nil i
-      there (y ∷ l) k e x i = let z : _≡_ {A = ℕ} 0 1 = cc in omega arith
+      there (y ∷ l) k e x i = never (cc)
 
       back : (l : List ℕ) → ((x : ℕ) → x ∈ l → ⊥) → (k : ℕ) × (answered l ≡ refused k)
       back [] f = two (leb (stop - start) (2 * short .m)) (splitOf (best (blank start stop) []))
@@ -98,7 +98,7 @@ module _ (gain : ℕ → ℕ → ℕ → Float) (short : Shortest) (ps : List �
     found-first = go tries (found-search s is) (best-is-first (blank start stop) tries)
       where
         go : (l : List Record) → ofSome (blank start stop) l ≡ some (recordOf start stop s) → FirstGreatest (blank start stop) l (best (blank start stop) l) → FirstGreatest (blank start stop) l (recordOf start stop s)
-        go [] h f = let z : _≡_ {A = ℕ} 0 1 = cc in absurd (omega arith)
+        go [] h f = never (cc)
         go (x ∷ l) h f = let w : best (blank start stop) (x ∷ l) ≡ recordOf start stop s = cc in rw w at f
 
     -- "a found split is an allowed row": wherever its gain is above minus infinity

@@ -2,3 +2,4 @@
 pub mod Barred
 pub mod Walk
 pub mod Found
+pub mod Answered

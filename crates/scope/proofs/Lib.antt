@@ -1,4 +1,5 @@
 -- Laws about the definitions of specs/.
+pub mod Never
 pub mod Order
 pub mod Lists
 pub mod Members
@@ -7,6 +8,7 @@ pub mod Lowest
 pub mod Candidates
 pub mod Sums
 pub mod Greatest
+pub mod Stored
 pub mod Signs
 pub mod Ordering
 pub mod Permuted

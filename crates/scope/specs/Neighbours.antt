@@ -64,8 +64,8 @@ neighbours start stop row order = take (wholeRoot (stop - start)) (select (λ j.
 unfoldable pub countOf : List Float → ℕ → ℕ → ℕ → ℕ → ℕ → ℕ → ℕ
 countOf cells n d start stop split row = length (select (λ j. leb split j) (neighbours start stop row (orderOf cells n d row)))
 
--- "Prediction: count/k", k = "whole square root of L = stop-start": for the first k rows of the segment
+-- "Prediction: count/k", k = "whole square root of L = stop-start": for the first i rows of the segment
 unfoldable pub predictions : List Float → ℕ → ℕ → ℕ → ℕ → ℕ → ℕ → List Float
 predictions cells n d start stop split zero = []
-predictions cells n d start stop split (suc k) =
-    predictions cells n d start stop split k ++ ((whole (countOf cells n d start stop split (start + k)) ⊘ whole (wholeRoot (stop - start))) ∷ [])
+predictions cells n d start stop split (suc i) =
+    predictions cells n d start stop split i ++ ((whole (countOf cells n d start stop split (start + i)) ⊘ whole (wholeRoot (stop - start))) ∷ [])

@@ -1,4 +1,3 @@
 -- Laws of a search's answer and of the seeded segments' records.
-pub mod Found
 pub mod Stored
 pub mod Clean

@@ -9,6 +9,7 @@ use lib.Ieee.{Float}
 use lib.ListN.{length, take, getD}
 use lib.Seq.{take-suc, take-all}
 use Rattle.scope.specs.Grid.{Record}
+use Rattle.scope.proofs.Never.{never}
 use Rattle.stored.specs.Flat.{recordAt, recordsIn}
 use Rattle.stored.proofs.Chosen.{left, left-all, left-none, left-next}
 use Rattle.report.specs.Written.{Written}
@@ -42,12 +43,12 @@ module _ {rows : List ℕ} {gains : List Float} {count row : ℕ} where
 
 -- ---- what the code's answer says of the first record
 pub found-is : (o : Option Record) (g : GainRecord) → found.Record g ≡ foundOf o → o ≡ some (toRecord g)
-found-is none g h = let z : _≡_ {A = ℕ} 0 1 = cc in absurd (omega arith)
+found-is none g h = never (cc)
 found-is (some r) g h = let e : g ≡ fromRecord r = cc in rw e
 
 pub nothing-is : (o : Option Record) → found.Nothing ≡ foundOf o → o ≡ none
 nothing-is none h = refl
-nothing-is (some r) h = let z : _≡_ {A = ℕ} 0 1 = cc in absurd (omega arith)
+nothing-is (some r) h = never (cc)
 
 -- ---- one line more
 lines-append : (rs : List Record) (xs ys : List ℕ) → linesOf rs (xs ++ ys) ≡ linesOf rs xs ++ linesOf rs ys

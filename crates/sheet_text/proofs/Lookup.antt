@@ -16,6 +16,7 @@ use Rattle.scope.specs.Program.{cutLines}
 use Rattle.demand.specs.Reached.{ruling}
 use Rattle.demand.specs.Grows.{Grows, asLeaf, asNode, directs}
 use Rattle.scope.proofs.Greatest.{first-one}
+use Rattle.scope.proofs.Never.{never}
 use Rattle.demand.proofs.Records.{allowed, direct-first, one-found, rows}
 use Rattle.demand.proofs.Cut.{cut-choice, cut-far}
 use Rattle.demand.proofs.Made.{grown-grows, grown-made}
@@ -32,7 +33,7 @@ first-past x r rs e = rw (ne-eqb (r .split) x e)
 
 first-before : (x : ℕ) (r : Record) (rs more : List Record) → firstAt x rs ≡ some r → firstAt x (rs ++ more) ≡ some r
 unfolding firstAt
-first-before x r [] more h = let z : _≡_ {A = ℕ} 0 1 = cc in absurd (omega arith)
+first-before x r [] more h = never (cc)
 first-before x r (s ∷ rs) more h = go (eqb (s .split) x) h (first-before x r rs more)
   where
     go : (b : Bool) → cond b (some s) (firstAt x rs) ≡ some r → (firstAt x rs ≡ some r → firstAt x (rs ++ more) ≡ some r) → cond b (some s) (firstAt x (rs ++ more)) ≡ some r
@@ -79,7 +80,7 @@ module _ (q : Run) (least : 1 ≤ q .shortest .m) where
     cut-direct start stop c h = go (direct q start stop) (rw no-seeds at (cut-choice q start stop c h .0))
       where
         go : (o : Option Record) → chosen o [] ≡ some c → o ≡ some c
-        go none e = let z : _≡_ {A = ℕ} 0 1 = cc in absurd (omega arith)
+        go none e = never (cc)
         go (some d) e = e
 
     first-cut : (start stop : ℕ) (t : Tree) → Grows q start stop t → (r : Record) → r ∈ cuts t → firstAt (r .split) (directs q t) ≡ some r

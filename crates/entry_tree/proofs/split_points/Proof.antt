@@ -16,7 +16,7 @@ use denote.Slice.{Room}
 use denote.Triple.Entry.{onEntry}
 use denote.Triple.Spec.{Meets, tripleOf}
 use denote.Triple.Table.{entered, cited}
-use Rattle.lent.proofs.Data.{Fit, word}
+use Rattle.lent.proofs.Data.{zero-fits}
 use Rattle.lent.proofs.Held.{Args, handed, anew}
 use Rattle.lent.proofs.Walk.{_▸_, builds, reborrows, returning}
 use Rattle.lent.proofs.Calls.{Known, unasked, calls}
@@ -43,9 +43,6 @@ use Rattle.entry_tree.proofs.split_points.Code as code
 
 room : Room (node .row) 8189
 room = (omega arith, omega arith)
-
-zero-fits : Fit word 0
-zero-fits = (refl, omega arith)
 
 -- what the tree's call says, of the nodes nothing
 told : (x : Matrix) (s : Settings) (r : Grown) (before after : Slices) → length (before .nodes) ≡ nodeRoom → TreeLeft x s r before after

@@ -3,7 +3,7 @@ use mathlib.Core.Path.{refl, sym, _∙_}
 use denote.Ref.{now}
 use Rattle.scope.specs.Gain.{gainOf}
 use Rattle.stored.proofs.Flat.{put-none}
-use Rattle.segmentation.proofs.Found.{found-record, refused-none}
+use Rattle.optimizer.proofs.Answered.{found-record, refused-none}
 use Rattle.control.specs.Settings.{shortestOf}
 use borrow.Author.Needs.{needs}
 use Rattle.segmentation.proofs.seed_segment.Statement.{statement}

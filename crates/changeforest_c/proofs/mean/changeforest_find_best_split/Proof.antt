@@ -3,7 +3,7 @@ use mathlib.Core.Path.{sym, _∙_}
 use denote.Ref.{now}
 use lib.ListN.{length}
 use Rattle.scope.specs.Calls.{SearchAsked, searchCall}
-use Rattle.changeforest_c.proofs.Heard.{best-given, best-refused}
+use Rattle.optimizer.proofs.Answered.{found-given, refused-number}
 use borrow.Author.Needs.{needs}
 use Rattle.changeforest_c.proofs.mean.changeforest_find_best_split.Statement.{statement}
 use Rattle.changeforest_c.proofs.mean.changeforest_find_best_split.Tie as tie
@@ -14,13 +14,13 @@ asked s = record { matrix = record { cells = now (s .args .cells); n = s .args .
 returns : tie.Need-returns
 returns c =
     let f = c .before .before .before .before .before .find-best-split .ensures in
-    let a = best-given (searchCall (asked (c .before .before .before .before .before .before .before .before .before .before)) .answer) (c .before .answer .given .0 .0) (c .before .answer .given .0 .1 .0) (sym (c .before .answer .given .1) ∙ f .answer) in
+    let a = found-given (searchCall (asked (c .before .before .before .before .before .before .before .before .before .before)) .answer) (c .before .answer .given .0 .0) (c .before .answer .given .0 .1 .0) (sym (f .answer) ∙ c .before .answer .given .1) in
     record { number = rw a; sums = f .sums; split = rw a; gain = rw a }
 
 returns-2 : tie.Need-returns-2
 returns-2 c =
     let f = c .before .before .before .before .before .find-best-split .ensures in
-    let a = best-refused (searchCall (asked (c .before .before .before .before .before .before .before .before .before .before)) .answer) (c .before .answer2 .given .0 .0) (sym (c .before .answer2 .given .1) ∙ f .answer) in
+    let a = refused-number (searchCall (asked (c .before .before .before .before .before .before .before .before .before .before)) .answer) (c .before .answer2 .given .0 .0) (sym (f .answer) ∙ c .before .answer2 .given .1) in
     record { number = rw a; sums = f .sums; split = rw a; gain = rw a }
 
 pub changeforest-find-best-split-spec : {M : Type 1} → statement M

@@ -2,7 +2,7 @@
 use mathlib.Core.Path.{sym, _∙_}
 use denote.Ref.{now}
 use Rattle.scope.specs.Calls.{PickAsked, pickAnswer}
-use Rattle.changeforest_c.proofs.Heard.{best-given, best-refused}
+use Rattle.optimizer.proofs.Answered.{found-given, refused-number}
 use borrow.Author.Needs.{needs}
 use Rattle.changeforest_c.proofs.two_step.changeforest_pick.Statement.{statement}
 use Rattle.changeforest_c.proofs.two_step.changeforest_pick.Tie as tie
@@ -12,12 +12,12 @@ asked s = record { n = s .args .n; shortest = record { m = s .args .m }; forbidd
 
 returns : tie.Need-returns
 returns c =
-    let a = best-given (pickAnswer (asked (c .before .before .before .before .before .before))) (c .before .answer .given .0 .0) (c .before .answer .given .0 .1 .0) (sym (c .before .answer .given .1) ∙ c .before .before .before .pick .ensures) in
+    let a = found-given (pickAnswer (asked (c .before .before .before .before .before .before))) (c .before .answer .given .0 .0) (c .before .answer .given .0 .1 .0) (sym (c .before .before .before .pick .ensures) ∙ c .before .answer .given .1) in
     record { number = rw a; split = rw a; gain = rw a }
 
 returns-2 : tie.Need-returns-2
 returns-2 c =
-    let a = best-refused (pickAnswer (asked (c .before .before .before .before .before .before))) (c .before .answer2 .given .0 .0) (sym (c .before .answer2 .given .1) ∙ c .before .before .before .pick .ensures) in
+    let a = refused-number (pickAnswer (asked (c .before .before .before .before .before .before))) (c .before .answer2 .given .0 .0) (sym (c .before .before .before .pick .ensures) ∙ c .before .answer2 .given .1) in
     record { number = rw a; split = rw a; gain = rw a }
 
 pub changeforest-pick-spec : {M : Type 1} → statement M
