@@ -8,11 +8,11 @@ use lib.Ieee.{Float, lt}
 use lib.Seq.{sets}
 use Rattle.scope.specs.Grid.{Record, best}
 use Rattle.scope.specs.Tree.{Run, direct, inside, choice, verdict}
-use Rattle.rows.specs.declared.Position.{Position}
-use Rattle.optimizer.specs.declared.optimizer_result.BestSplit.{BestSplit}
-use Rattle.optimizer.specs.declared.optimizer_result.BestSplit.the-variants.{Found, Refused}
-use Rattle.optimizer.specs.Records.{fromRecord, bestSplitOf, searched}
-use Rattle.optimizer.proofs.Answered.{found-record, refused-none}
+use Rattle.optimizer.specs.declared.optimizer_result.GainRecord.{GainRecord}
+use Rattle.optimizer.specs.declared.optimizer_result.Searched.{Searched}
+use Rattle.optimizer.specs.declared.optimizer_result.Searched.the-variants as handed
+use Rattle.optimizer.specs.Records.{toRecord, fromRecord, searchedOf, searched}
+use Rattle.optimizer.proofs.Answered.{record-some, record-ends, refused-none}
 use Rattle.stored.specs.Flat.{flatRows, gainsOf, recordsIn}
 use Rattle.binary_segmentation.specs.declared.tree.Counts.{Counts}
 use Rattle.binary_segmentation.specs.declared.tree.Judged.the-variants.{Uncut, Cut}
@@ -20,11 +20,15 @@ use Rattle.node.specs.Nodes.{toNode, leafOf}
 use Rattle.binary_segmentation.specs.Growth.{behind, Judging}
 
 -- what the search's answer says of the direct record
-module _ (q : Run) (start stop : ℕ) (r : BestSplit) (answer : r ≡ bestSplitOf (searched (q .gain) (q .shortest) (q .forbidden) start stop)) where
-  pub direct-some : (p : Position) (g : Float) → r ≡ Found p g → direct q start stop ≡ some (record { start = start; stop = stop; split = p .0; gain = g })
-  direct-some p g h = found-record (q .gain) (q .shortest) (q .forbidden) start stop p g (sym answer ∙ h)
+module _ (q : Run) (start stop : ℕ) (r : Searched) (answer : r ≡ searchedOf (searched (q .gain) (q .shortest) (q .forbidden) start stop)) where
+  pub direct-some : (d : GainRecord) → r ≡ handed.Record d → direct q start stop ≡ some (toRecord d)
+  direct-some d h = record-some (q .gain) (q .shortest) (q .forbidden) start stop d (sym answer ∙ h)
 
-  pub direct-none : (k : ℕ) → r ≡ Refused k → direct q start stop ≡ none
+  -- among any records, those inside its segment
+  pub direct-inside : (d : GainRecord) → r ≡ handed.Record d → (rs : List Record) → inside (d .start .0) (d .stop .0) rs ≡ inside start stop rs
+  direct-inside d h rs = let (a, e) = record-ends (q .gain) (q .shortest) (q .forbidden) start stop d (sym answer ∙ h) in rw (a, e)
+
+  pub direct-none : (k : ℕ) → r ≡ handed.Refused k → direct q start stop ≡ none
   direct-none k h = refused-none (q .gain) (q .shortest) (q .forbidden) start stop k (sym answer ∙ h)
 
 module _ (q : Run) (start stop : ℕ) (at : Counts) (rows : List ℕ) (gains : List Float) where

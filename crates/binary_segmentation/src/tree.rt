@@ -2,8 +2,8 @@
 // What decides stands in small functions. `grow` and `binary_segmentation` hand the lent node list on and decide nothing.
 use control::Settings;
 use node::Node;
-use optimizer::optimizer_result::BestSplit;
 use optimizer::optimizer_result::GainRecord;
+use optimizer::optimizer_result::Searched;
 use rows::Position;
 use stored::choice;
 use stored::records;
@@ -61,7 +61,7 @@ fn judge(
 {
     let settings = asked.settings;
     let shortest = settings.shortest;
-    let BestSplit::Found(best_split, max_gain) = grid_search::find_best_split(
+    let Searched::Record(direct) = grid_search::search_segment(
         sums,
         asked.d,
         shortest,
@@ -70,12 +70,6 @@ fn judge(
         stop,
     ) else {
         return Judged::Uncut(Node::without_choice(start, stop), counts.behind(0));
-    };
-    let direct = GainRecord {
-        start,
-        stop,
-        best_split,
-        max_gain,
     };
     let at = counts.records;
     let choice = choice::choose(direct, rows, gains, at);

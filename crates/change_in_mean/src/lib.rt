@@ -73,19 +73,16 @@ pub fn gain(sums: &[f64], d: usize, start: Position, stop: Position, split: Posi
     requires { ⌜ (stop .0 + 1) * d ≤ length (now sums) ⌝ }
     ensures { λ r. ⌜ r ≡ gainOf (now (sums .entry)) d (start .0) (stop .0) (split .0) ⌝ }
 {
-    let a = start.0;
-    let e = stop.0;
-    let x = split.0;
-    if x == a {
+    if split.0 == start.0 {
         return 0.0;
     }
-    if x == e {
+    if split.0 == stop.0 {
         return 0.0;
     }
-    let s1 = (x - a) as f64;
-    let s2 = (e - x) as f64;
+    let s1 = split.offset_in(start).0 as f64;
+    let s2 = stop.offset_in(split).0 as f64;
     let s = s1 + s2;
-    column_terms(sums, d, a * d, e * d, x * d, s1, s2) / ((s * s1) * s2)
+    column_terms(sums, d, start.0 * d, stop.0 * d, split.0 * d, s1, s2) / ((s * s1) * s2)
 }
 
 // The number that applies to a call for a gain, or 0.

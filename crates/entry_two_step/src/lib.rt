@@ -41,8 +41,7 @@ pub fn pick(
         stop,
         guess,
     );
-    let split = record.best_split;
-    BestSplit::Found(split, record.max_gain)
+    record.best()
 }
 
 // The guesses for [start, stop). Whether a forbidden list is given is an input of its own: an empty list is not the same as none.

@@ -3,6 +3,7 @@ use control::Shortest;
 use optimizer::candidates;
 use optimizer::optimizer_result::BestSplit;
 use optimizer::optimizer_result::GainRecord;
+use optimizer::optimizer_result::Searched;
 use rows::Position;
 ghost use mathlib.Core.Path.{_≡_};
 ghost use Prim.Native.Nat.{_+_, _*_, _≤_};
@@ -11,7 +12,7 @@ ghost use Rattle.scope.specs.Gain.{gainOf};
 ghost use Rattle.scope.specs.Grid.{best, blank, trials};
 ghost use Rattle.scope.specs.Calls.{searchRefusal};
 ghost use Rattle.control.specs.Settings.{shortestOf};
-ghost use Rattle.optimizer.specs.Records.{toRecord, bestSplitOf, searched};
+ghost use Rattle.optimizer.specs.Records.{toRecord, bestSplitOf, searchedOf, splitFound, searched};
 
 // The record of the greatest gain among the candidates, the first if several are equal.
 fn greatest(
@@ -26,18 +27,39 @@ fn greatest(
     requires { ⌜ (stop .0 + 1) * d ≤ length (now sums) ⌝ }
     ensures { λ r. ⌜ toRecord r ≡ best (blank (start .0) (stop .0)) (trials (gainOf (now (sums .entry)) d) (shortestOf shortest) (now (forbidden .entry)) (start .0) (stop .0)) ⌝ }
 {
-    let first = start.0 + shortest.m;
     let size = candidates::range_size(shortest, start, stop);
     let mut record = GainRecord::blank(start, stop);
     let mut k = 0;
     while k < size {
-        let split = Position(first + k);
+        let split = candidates::range_row(shortest, start, k);
         if !candidates::is_barred(forbidden, split) {
             record = record.better(split, change_in_mean::gain(sums, d, start, stop, split));
         }
         k += 1;
     }
     record
+}
+
+// The record of the best split of [start, stop), or refusal 9 or 10: what the tree and the stored records take over.
+pub fn search_segment(
+    sums: &[f64],
+    d: usize,
+    shortest: Shortest,
+    forbidden: &[usize],
+    start: Position,
+    stop: Position,
+) -> Searched
+    requires { ⌜ (start .0 ≤ stop .0) × (stop .0 ≤ 4096) × (shortest .m ≤ 4096) ⌝ }
+    requires { ⌜ (stop .0 + 1) * d ≤ length (now sums) ⌝ }
+    ensures { λ r. ⌜ r ≡ searchedOf (searched (gainOf (now (sums .entry)) d) (shortestOf shortest) (now (forbidden .entry)) (start .0) (stop .0)) ⌝ }
+{
+    if stop.0 - start.0 <= 2 * shortest.m {
+        return Searched::Refused(9);
+    }
+    if candidates::all_barred(forbidden, shortest, start, stop) {
+        return Searched::Refused(10);
+    }
+    Searched::Record(greatest(sums, d, shortest, forbidden, start, stop))
 }
 
 // The best split of [start, stop) and its gain, or refusal 9 or 10.
@@ -51,17 +73,12 @@ pub fn find_best_split(
 ) -> BestSplit
     requires { ⌜ (start .0 ≤ stop .0) × (stop .0 ≤ 4096) × (shortest .m ≤ 4096) ⌝ }
     requires { ⌜ (stop .0 + 1) * d ≤ length (now sums) ⌝ }
-    ensures { λ r. ⌜ r ≡ bestSplitOf (searched (gainOf (now (sums .entry)) d) (shortestOf shortest) (now (forbidden .entry)) (start .0) (stop .0)) ⌝ }
+    ensures { λ r. ⌜ r ≡ bestSplitOf (splitFound (searched (gainOf (now (sums .entry)) d) (shortestOf shortest) (now (forbidden .entry)) (start .0) (stop .0))) ⌝ }
 {
-    if stop.0 - start.0 <= 2 * shortest.m {
-        return BestSplit::Refused(9);
+    match search_segment(sums, d, shortest, forbidden, start, stop) {
+        Searched::Record(found) => found.best(),
+        Searched::Refused(no) => BestSplit::Refused(no),
     }
-    if candidates::all_barred(forbidden, shortest, start, stop) {
-        return BestSplit::Refused(10);
-    }
-    let record = greatest(sums, d, shortest, forbidden, start, stop);
-    let split = record.best_split;
-    BestSplit::Found(split, record.max_gain)
 }
 
 // The number that applies to a call for a search, or 0.

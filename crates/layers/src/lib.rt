@@ -1,4 +1,5 @@
 // The layers of seeded segments: how many segments a layer has, and where each starts and stops. Inside the library. After segmentation.rs.
+use rows::Offset;
 use rows::Position;
 ghost use mathlib.Core.Path.{_≡_};
 ghost use mathlib.Core.Bool.{true, false};
@@ -128,9 +129,9 @@ impl Layer {
         requires { ⌜ Made self × (start .0 ≤ self .n) ⌝ }
         ensures { λ r. ⌜ r .0 ≡ min (start .0 + self .length) (self .n) ⌝ }
     {
-        let stop = start.0 + self.length;
-        if stop < self.n {
-            return Position(stop);
+        let stop = Offset(self.length).position_from(start);
+        if stop.0 < self.n {
+            return stop;
         }
         Position(self.n)
     }

@@ -1,4 +1,4 @@
--- Laws for callers of a search: what a found split is, and when there is none. Assumes nothing.
+-- Laws for callers of a search: what a found record is, and when there is none. Assumes nothing.
 use mathlib.Core.Path.{_≡_, refl, sym, _∙_, ap}
 use mathlib.Core.Logic.{_↔_}
 use mathlib.Core.Bool.{Bool, true, false, cond}
@@ -15,7 +15,6 @@ use Rattle.scope.specs.Asked.{Shortest}
 use Rattle.scope.specs.Candidates.{candidates}
 use Rattle.scope.specs.Greatest.{numeric, FirstGreatest, kept, taken}
 use Rattle.scope.specs.Grid.{Record, blank, best, trial, trials, ofSome, search}
-use Rattle.scope.specs.Calls.{Split, splitOf}
 use Rattle.scope.proofs.Candidates.{candidates-are, refusal-9-10}
 use Rattle.scope.proofs.Greatest.{best-is-first, not-above}
 use Rattle.scope.proofs.Order.{both, lt-irrefl}
@@ -23,20 +22,16 @@ use Rattle.scope.proofs.Never.{never}
 use Rattle.optimizer.specs.Records.{searched}
 use Rattle.optimizer.proofs.Walk.{best-ends}
 
--- the record of a split
-abbrev pub recordOf : ℕ → ℕ → Split → Record
-recordOf start stop s = record { start = start; stop = stop; split = s .split; gain = s .gain }
-
 module _ (gain : ℕ → ℕ → ℕ → Float) (short : Shortest) (ps : List ℕ) (start stop : ℕ) where
-  abbrev answer : Answer Split
+  abbrev answer : Answer Record
   answer = searched gain short ps start stop
 
   abbrev tries : List Record
   tries = trials gain short ps start stop
 
   -- the answer for a list of candidates
-  abbrev answered : List ℕ → Answer Split
-  answered l = unless (cond (isEmpty l) (cond (leb (stop - start) (2 * short .m)) 9 10) 0) (splitOf (best (blank start stop) (map (trial gain start stop) l)))
+  abbrev answered : List ℕ → Answer Record
+  answered l = unless (cond (isEmpty l) (cond (leb (stop - start) (2 * short .m)) 9 10) 0) (best (blank start stop) (map (trial gain start stop) l))
 
   abbrev recorded : List ℕ → Option Record
   recorded l = ofSome (blank start stop) (map (trial gain start stop) l)
@@ -49,24 +44,27 @@ module _ (gain : ℕ → ℕ → ℕ → Float) (short : Shortest) (ps : List �
   unfolding search trials
   search-is = refl
 
-  two : (b : Bool) (s : Split) → (k : ℕ) × (unless (cond b 9 10) s ≡ refused k)
-  two true s = (9, refl)
-  two false s = (10, refl)
+  two : (b : Bool) (r : Record) → (k : ℕ) × (unless (cond b 9 10) r ≡ refused k)
+  two true r = (9, refl)
+  two false r = (10, refl)
 
-  same-record : (r : Record) → r .start ≡ start → r .stop ≡ stop → r ≡ recordOf start stop (splitOf r)
-  same-record r h k = rw (← h, ← k)
-
-  -- a split is found: the search has its record
-  pub found-search : (s : Split) → answer ≡ given s → search gain short ps start stop ≡ some (recordOf start stop s)
-  found-search s h = search-is ∙ go (candidates short ps start stop) (sym answer-is ∙ h)
+  -- a record is found: it is the search's
+  pub found-search : (r : Record) → answer ≡ given r → search gain short ps start stop ≡ some r
+  found-search r h = search-is ∙ go (candidates short ps start stop) (sym answer-is ∙ h)
     where
-      go : (l : List ℕ) → answered l ≡ given s → recorded l ≡ some (recordOf start stop s)
-      go [] e = let (k, w) = two (leb (stop - start) (2 * short .m)) (splitOf (best (blank start stop) [])) in never (cc)
+      go : (l : List ℕ) → answered l ≡ given r → recorded l ≡ some r
+      go [] e = let (k, w) = two (leb (stop - start) (2 * short .m)) (best (blank start stop) []) in never (cc)
+      go (x ∷ l) e = cc
+
+  -- it is a record of the segment
+  pub found-ends : (r : Record) → answer ≡ given r → (r .start ≡ start) × (r .stop ≡ stop)
+  found-ends r h = go (candidates short ps start stop) (sym answer-is ∙ h)
+    where
+      go : (l : List ℕ) → answered l ≡ given r → (r .start ≡ start) × (r .stop ≡ stop)
+      go [] e = let (k, w) = two (leb (stop - start) (2 * short .m)) (best (blank start stop) []) in never (cc)
       go (x ∷ l) e =
-          let r = best (blank start stop) (map (trial gain start stop) (x ∷ l)) in
-          let (i, j) = best-ends gain start stop (blank start stop) (x ∷ l) refl refl in
-          let w : splitOf r ≡ s = cc in
-          ap some (same-record r i j ∙ ap (recordOf start stop) w)
+          let is : best (blank start stop) (map (trial gain start stop) (x ∷ l)) ≡ r = cc in
+          rw is at (best-ends gain start stop (blank start stop) (x ∷ l) refl refl)
 
   -- a number: the search has none
   pub refused-search : (k : ℕ) → answer ≡ refused k → search gain short ps start stop ≡ none
@@ -88,28 +86,28 @@ module _ (gain : ℕ → ℕ → ℕ → Float) (short : Shortest) (ps : List �
       there (y ∷ l) k e x i = never (cc)
 
       back : (l : List ℕ) → ((x : ℕ) → x ∈ l → ⊥) → (k : ℕ) × (answered l ≡ refused k)
-      back [] f = two (leb (stop - start) (2 * short .m)) (splitOf (best (blank start stop) []))
+      back [] f = two (leb (stop - start) (2 * short .m)) (best (blank start stop) [])
       back (x ∷ l) f = absurd (f x (List·Memᴰ·head refl))
 
   -- ---- "its gain is the first of the greatest numeric gains"
-  module _ (s : Split) (is : answer ≡ given s) where
-    pub found-first : FirstGreatest (blank start stop) tries (recordOf start stop s)
+  module _ (s : Record) (is : answer ≡ given s) where
+    pub found-first : FirstGreatest (blank start stop) tries s
     unfolding search
     found-first = go tries (found-search s is) (best-is-first (blank start stop) tries)
       where
-        go : (l : List Record) → ofSome (blank start stop) l ≡ some (recordOf start stop s) → FirstGreatest (blank start stop) l (best (blank start stop) l) → FirstGreatest (blank start stop) l (recordOf start stop s)
+        go : (l : List Record) → ofSome (blank start stop) l ≡ some s → FirstGreatest (blank start stop) l (best (blank start stop) l) → FirstGreatest (blank start stop) l s
         go [] h f = never (cc)
-        go (x ∷ l) h f = let w : best (blank start stop) (x ∷ l) ≡ recordOf start stop s = cc in rw w at f
+        go (x ∷ l) h f = let w : best (blank start stop) (x ∷ l) ≡ s = cc in rw w at f
 
     -- "a found split is an allowed row": wherever its gain is above minus infinity
     pub found-allowed : lt lowest (s .gain) ≡ true → Allowed short ps start stop (s .split) × (s .gain ≡ gain start stop (s .split))
     unfolding trials
     found-allowed h = go found-first
       where
-        go : FirstGreatest (blank start stop) tries (recordOf start stop s) → Allowed short ps start stop (s .split) × (s .gain ≡ gain start stop (s .split))
+        go : FirstGreatest (blank start stop) tries s → Allowed short ps start stop (s .split) × (s .gain ≡ gain start stop (s .split))
         go (kept e n) = both h (rw (ap (λ (r : Record). r .gain) e) (lt-irrefl lowest))
         go (taken earlier later e g b n) =
-            let i : recordOf start stop s ∈ tries = rw e (mathlib.Core.List.Memᴰ·append-right earlier (List·Memᴰ·head refl)) in
+            let i : s ∈ tries = rw e (mathlib.Core.List.Memᴰ·append-right earlier (List·Memᴰ·head refl)) in
             let (x, j, w) = Memᴰ·of-map (trial gain start stop) (candidates short ps start stop) i in
             let same : x ≡ s .split = ap (λ (r : Record). r .split) w in
             let own : gain start stop x ≡ s .gain = ap (λ (r : Record). r .gain) w in
@@ -119,7 +117,7 @@ module _ (gain : ℕ → ℕ → ℕ → Float) (short : Shortest) (ps : List �
     pub found-nan : ((x : ℕ) → Allowed short ps start stop x → numeric (gain start stop x) ≡ false) → (s .split ≡ 0) × (s .gain ≡ lowest)
     found-nan nans = go (lt lowest (s .gain)) refl found-first
       where
-        go : (b : Bool) → lt lowest (s .gain) ≡ b → FirstGreatest (blank start stop) tries (recordOf start stop s) → (s .split ≡ 0) × (s .gain ≡ lowest)
+        go : (b : Bool) → lt lowest (s .gain) ≡ b → FirstGreatest (blank start stop) tries s → (s .split ≡ 0) × (s .gain ≡ lowest)
         go true h f = let (a, own) = found-allowed h in both h (rw own (not-above lowest (gain start stop (s .split)) (nans (s .split) a)))
         go false h (kept e n) = (ap (λ (r : Record). r .split) e, ap (λ (r : Record). r .gain) e)
         go false h (taken earlier later e g b n) = both g h

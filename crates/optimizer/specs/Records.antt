@@ -10,7 +10,9 @@ use Rattle.scope.specs.Grid.{Record, blank, best, trials}
 use Rattle.scope.specs.Calls.{Split, splitOf}
 use Rattle.optimizer.specs.declared.optimizer_result.GainRecord.{GainRecord}
 use Rattle.optimizer.specs.declared.optimizer_result.BestSplit.{BestSplit}
-use Rattle.optimizer.specs.declared.optimizer_result.BestSplit.the-variants.{Found, Refused}
+use Rattle.optimizer.specs.declared.optimizer_result.BestSplit.the-variants as bestSplit
+use Rattle.optimizer.specs.declared.optimizer_result.Searched.{Searched}
+use Rattle.optimizer.specs.declared.optimizer_result.Searched.the-variants as handed
 
 -- the record that the struct stands for
 abbrev pub toRecord : GainRecord → Record
@@ -30,10 +32,20 @@ guessed start stop guess = record { start = start; stop = stop; split = guess; g
 
 -- "A search answers with a split and its gain, or a number."
 abbrev pub bestSplitOf : Answer Split → BestSplit
-bestSplitOf (refused k) = Refused k
-bestSplitOf (given s) = Found (record { 0 = s .split }) (s .gain)
+bestSplitOf (refused k) = bestSplit.Refused k
+bestSplitOf (given s) = bestSplit.Found (record { 0 = s .split }) (s .gain)
 
--- what a search of [start, stop) answers, once nothing lower than 9 applies
-unfoldable pub searched : (ℕ → ℕ → ℕ → Float) → Shortest → List ℕ → ℕ → ℕ → Answer Split
+-- inside the library: with its record, or a number
+abbrev pub searchedOf : Answer Record → Searched
+searchedOf (refused k) = handed.Refused k
+searchedOf (given r) = handed.Record (fromRecord r)
+
+-- the record's split and gain
+abbrev pub splitFound : Answer Record → Answer Split
+splitFound (refused k) = refused k
+splitFound (given r) = given (splitOf r)
+
+-- what a search of [start, stop) finds, once nothing lower than 9 applies
+unfoldable pub searched : (ℕ → ℕ → ℕ → Float) → Shortest → List ℕ → ℕ → ℕ → Answer Record
 searched gain short forbidden start stop =
-    unless (firstOf (no9 short (stop - start) ∷ no10 short forbidden start stop ∷ [])) (splitOf (best (blank start stop) (trials gain short forbidden start stop)))
+    unless (firstOf (no9 short (stop - start) ∷ no10 short forbidden start stop ∷ [])) (best (blank start stop) (trials gain short forbidden start stop))

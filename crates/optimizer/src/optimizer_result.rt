@@ -1,9 +1,11 @@
-// What a search finds: the gain record, by value, and the answer that callers take the split out of. After optimizer/optimizer_result.rs.
+// What a search finds: the gain record, by value, as it is handed on to the tree; and the answer to a caller. After optimizer/optimizer_result.rs.
 use rows::Position;
 ghost use mathlib.Core.Path.{_≡_};
 ghost use Rattle.scope.specs.Floats.{lowest};
+ghost use Rattle.scope.specs.Refusals.{given};
 ghost use Rattle.scope.specs.Grid.{blank, better};
-ghost use Rattle.optimizer.specs.Records.{toRecord, tried, guessed};
+ghost use Rattle.scope.specs.Calls.{splitOf};
+ghost use Rattle.optimizer.specs.Records.{toRecord, tried, guessed, bestSplitOf};
 
 // The best split of [start, stop) and its gain.
 #[repr(C)]
@@ -17,6 +19,12 @@ pub struct GainRecord {
 // A search answers with a split and its gain, or with the number of a refusal.
 pub enum BestSplit {
     Found(Position, f64),
+    Refused(u32),
+}
+
+// What a search hands on inside the library, to the tree and to the stored records: its record, or the number of a refusal.
+pub enum Searched {
+    Record(GainRecord),
     Refused(u32),
 }
 
@@ -67,5 +75,13 @@ impl GainRecord {
             };
         }
         self
+    }
+
+    // The answer to a caller.
+    pub fn best(self) -> BestSplit
+        ensures { λ r. ⌜ r ≡ bestSplitOf (given (splitOf (toRecord self))) ⌝ }
+    {
+        let split = self.best_split;
+        BestSplit::Found(split, self.max_gain)
     }
 }

@@ -3,8 +3,7 @@
 use control::Shortest;
 use layers::Layer;
 use layers::Segment;
-use optimizer::optimizer_result::BestSplit;
-use optimizer::optimizer_result::GainRecord;
+use optimizer::optimizer_result::Searched;
 use stored::records;
 ghost use mathlib.Core.Path.{_≡_};
 ghost use mathlib.Core.Bool.{false};
@@ -37,7 +36,7 @@ fn seed_segment(
 {
     let start = segment.start;
     let stop = segment.stop;
-    let BestSplit::Found(best_split, max_gain) = grid_search::find_best_split(
+    let Searched::Record(found) = grid_search::search_segment(
         sums,
         d,
         shortest,
@@ -46,12 +45,6 @@ fn seed_segment(
         stop,
     ) else {
         return at;
-    };
-    let found = GainRecord {
-        start,
-        stop,
-        best_split,
-        max_gain,
     };
     records::put_record(rows, gains, at, found);
     at + 1

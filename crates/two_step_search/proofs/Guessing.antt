@@ -3,7 +3,8 @@ use mathlib.Core.Path.{_≡_, refl, sym, _∙_, ap}
 use mathlib.Core.Logic.{⊎-elim}
 use mathlib.Core.Bool.{Bool, true, false, not, _||_, false≢true}
 use mathlib.Core.List.{List, [], _∷_, _++_, List·Memᴰ·head, List·Memᴰ·tail, List·Memᴰ·not-nil, List·Memᴰ·cases-cons}
-use Prim.Native.Nat.{ℕ, _+_, _-_, _≤_, _<_}
+use Prim.Native.Nat.{ℕ, _+_, _-_, _*_, _/_, _≤_, _<_}
+use native.Mathlib.Omega.{arith}
 use borrow.Author.Tests.{eqb-true, eq-eqb}
 use lib.Dec.{eqb}
 use Rattle.scope.specs.Lists.{_∈_, upward, keep}
@@ -53,6 +54,10 @@ module _ (short : Shortest) (ps : List ℕ) (a e x : ℕ) where
       same-test (not (isBarred ps x)) (isMember x (candidates short ps a e))
       (λ t. in-member x (candidates short ps a e) (select-all (λ y. not (isBarred ps y)) (upward (a + short .m) (rangeSize short a e)) x (upward-are (a + short .m) (rangeSize short a e) x .1 (l, h)) t))
       (λ w. in-range (member-in x (candidates short ps a e) w) .2)
+
+-- ---- the quarters of [a, b), as rows past its start
+pub quarters-past : (a b : ℕ) → a ≤ b → (a + (b - a) / 4 ≡ (3 * a + b) / 4) × (a + (b - a) / 2 ≡ (a + b) / 2) × (a + 3 * (b - a) / 4 ≡ (a + 3 * b) / 4)
+quarters-past a b h = (omega arith, omega arith, omega arith)
 
 -- ---- three rows, each kept or not
 pub three-kept : (p q r : Bool) (x y z : ℕ) → (([] ++ keep p x []) ++ keep q y []) ++ keep r z [] ≡ keep p x (keep q y (keep r z []))

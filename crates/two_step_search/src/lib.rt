@@ -30,13 +30,12 @@ pub fn is_candidate(
     requires { ⌜ (start .0 ≤ stop .0) × (stop .0 ≤ 4096) × (shortest .m ≤ 4096) ⌝ }
     ensures { λ r. ⌜ r ≡ isMember (row .0) (candidatesOf (shortestOf shortest) (now (forbidden .entry)) (start .0) (stop .0)) ⌝ }
 {
-    let first = start.0 + shortest.m;
+    let first = candidates::range_row(shortest, start, 0);
     let size = candidates::range_size(shortest, start, stop);
-    let x = row.0;
-    if x < first {
+    if row.0 < first.0 {
         return false;
     }
-    if size <= x - first {
+    if size <= row.offset_in(first).0 {
         return false;
     }
     !candidates::is_barred(forbidden, row)
@@ -64,12 +63,11 @@ pub fn single_find_best_split(
     requires { ⌜ length (now curve) ≡ stop .0 - start .0 ⌝ }
     ensures { λ r. ⌜ toRecord r ≡ picked (shortestOf shortest) (now (forbidden .entry)) (start .0) (stop .0) (guess .0) (now (curve .entry)) ⌝ }
 {
-    let first = start.0 + shortest.m;
     let size = candidates::range_size(shortest, start, stop);
     let mut record = GainRecord::guessed(start, stop, guess);
     let mut k = 0;
     while k < size {
-        let split = Position(first + k);
+        let split = candidates::range_row(shortest, start, k);
         if !candidates::is_barred(forbidden, split) {
             record = record.better(split, value_at(curve, split.offset_in(start)));
         }
@@ -141,12 +139,11 @@ fn count_candidates(
     requires { ⌜ (start .0 ≤ stop .0) × (stop .0 ≤ 4096) × (shortest .m ≤ 4096) ⌝ }
     ensures { λ r. ⌜ r ≡ length (candidatesOf (shortestOf shortest) (now (forbidden .entry)) (start .0) (stop .0)) ⌝ }
 {
-    let first = start.0 + shortest.m;
     let size = candidates::range_size(shortest, start, stop);
     let mut count = 0;
     let mut k = 0;
     while k < size {
-        if !candidates::is_barred(forbidden, Position(first + k)) {
+        if !candidates::is_barred(forbidden, candidates::range_row(shortest, start, k)) {
             count += 1;
         }
         k += 1;
@@ -166,15 +163,14 @@ fn candidate_number(
     requires { ⌜ i < length (candidatesOf (shortestOf shortest) (now forbidden) (start .0) (stop .0)) ⌝ }
     ensures { λ r. ⌜ r .0 ≡ getD (candidatesOf (shortestOf shortest) (now (forbidden .entry)) (start .0) (stop .0)) i 0 ⌝ }
 {
-    let first = start.0 + shortest.m;
     let size = candidates::range_size(shortest, start, stop);
     let mut seen = 0;
     let mut k = 0;
     while k < size {
-        let row = first + k;
-        if !candidates::is_barred(forbidden, Position(row)) {
+        let row = candidates::range_row(shortest, start, k);
+        if !candidates::is_barred(forbidden, row) {
             if seen == i {
-                return Position(row);
+                return row;
             }
             seen += 1;
         }
@@ -223,7 +219,8 @@ fn kept(guesses: Guesses, keeps: bool, row: Position) -> Guesses
     guesses
 }
 
-// The guesses without a forbidden list: (3a+b)/4, (a+b)/2, (a+3b)/4 of start a and stop b, keeping candidates. The list is empty.
+// The guesses without a forbidden list: (3a+b)/4, (a+b)/2, (a+3b)/4 of start a and stop b, which stand a quarter, a half and three quarters
+// of the segment past its start, keeping candidates. The list is empty.
 pub fn guesses_between(
     empty: &[usize],
     shortest: Shortest,
@@ -234,11 +231,10 @@ pub fn guesses_between(
     requires { ⌜ now empty ≡ [] ⌝ }
     ensures { λ r. ⌜ r ≡ guessesIn (guesses (shortestOf shortest) none (start .0) (stop .0)) ⌝ }
 {
-    let a = start.0;
-    let b = stop.0;
-    let first = Position((3 * a + b) / 4);
-    let second = Position((a + b) / 2);
-    let third = Position((a + 3 * b) / 4);
+    let long = stop.offset_in(start).0;
+    let first = Offset(long / 4).position_from(start);
+    let second = Offset(long / 2).position_from(start);
+    let third = Offset(3 * long / 4).position_from(start);
     let one = kept(
         Guesses::none(),
         is_candidate(empty, shortest, start, stop, first),

@@ -12,7 +12,7 @@ use Rattle.scope.specs.Grid.{blank, best, trials}
 use Rattle.scope.specs.Calls.{Split, splitOf, gainIn, sumsOf, SearchAsked, searchCall}
 use Rattle.control.specs.Settings.{shortestOf}
 use Rattle.control.proofs.Follows.{answer-refused, held-refused, answer-given, held-given}
-use Rattle.optimizer.specs.Records.{bestSplitOf, searched}
+use Rattle.optimizer.specs.Records.{bestSplitOf, splitFound, searched}
 use Rattle.change_in_mean.proofs.Room.{sums-are, sums-part, row-within}
 use Rattle.entry_mean.proofs.Clean.{SearchClean, search-clean}
 use borrow.Author.Needs.{needs}
@@ -62,7 +62,7 @@ find-best-split-requires c κs =
 
 -- where 9 and 10 don't apply, the search's answer is the best split
 answered : (a : SearchAsked) → SearchClean a → (sums : List Float) → sums ≡ sumsOf (a .matrix)
-    → searched (gainOf sums (a .matrix .d)) (a .shortest) (a .forbidden) (a .start) (a .stop) ≡ given (found a)
+    → splitFound (searched (gainOf sums (a .matrix .d)) (a .shortest) (a .forbidden) (a .start) (a .stop)) ≡ given (found a)
 unfolding searched
 answered a f sums e = rw (e, f .some)
 

@@ -26,7 +26,7 @@ single-find-best-split-requires c κs =
 
 returns-2 : tie.Need-returns-2
 unfolding pickAnswer
-returns-2 c = rw (← c .before .before .before .pick-refusal .ensures, c .before .before .if1 .left) (ap (λ (r : Record). bestSplitOf (given (splitOf r))) (c .before .single-find-best-split .ensures))
+returns-2 c = rw (← c .before .before .before .pick-refusal .ensures, c .before .before .if1 .left) (c .best .ensures ∙ ap (λ (r : Record). bestSplitOf (given (splitOf r))) (c .before .single-find-best-split .ensures))
 
 pub pick-spec : {M : Type 1} → statement M
-pick-spec = tie.close (tie.spec (λ c κs. search needs) returns single-find-best-split-requires returns-2)
+pick-spec = tie.close (tie.spec (λ c κs. search needs) returns single-find-best-split-requires (λ c κs. search needs) returns-2)

@@ -1,34 +1,28 @@
--- `find_best_split` meets its contract: 9 where there is no range, 10 where all of it is barred, else the best.
-use mathlib.Core.Path.{ap}
-use borrow.Author.Tests.{le-leb, lt-leb}
-use Rattle.scope.specs.Refusals.{given}
+-- `find_best_split` meets its contract: the record's split and gain, or the number.
+use mathlib.Core.Path.{sym, _∙_, ap}
+use denote.Ref.{now}
+use Rattle.scope.specs.Refusals.{Answer}
+use Rattle.scope.specs.Gain.{gainOf}
 use Rattle.scope.specs.Grid.{Record}
-use Rattle.scope.specs.Calls.{splitOf}
-use Rattle.optimizer.specs.Records.{searched, bestSplitOf}
+use Rattle.control.specs.Settings.{shortestOf}
+use Rattle.optimizer.specs.Records.{bestSplitOf, splitFound, searched}
+use Rattle.optimizer.proofs.Answered.{record-given, number-given}
 use borrow.Author.Needs.{needs}
 use Rattle.grid_search.proofs.find_best_split.Statement.{statement}
 use Rattle.grid_search.proofs.find_best_split.Tie as tie
 
+abbrev found : tie.Start → Answer Record
+found s = let a = s .args in searched (gainOf (now (a .sums)) (a .d)) (shortestOf (a .shortest)) (now (a .forbidden)) (a .start .0) (a .stop .0)
+
 returns : tie.Need-returns
-unfolding searched
-returns c = rw (le-leb _ _ (c .if1 .taken))
+returns c =
+    let w = record-given (found (c .before .before .before .before .before .before .before)) _ (sym (c .before .before .before .before .search-segment .ensures) ∙ c .before .before .found .given .1) in
+    c .best .ensures ∙ sym (ap (λ (a : Answer Record). bestSplitOf (splitFound a)) w)
 
 returns-2 : tie.Need-returns-2
-unfolding searched
-returns-2 c = rw (lt-leb _ _ (c .before .before .if1 .left), ← c .before .all-barred .ensures, c .if2 .taken)
-
-returns-3 : tie.Need-returns-3
-unfolding searched
-returns-3 c = rw (lt-leb _ _ (c .before .before .before .before .if1 .left), ← c .before .before .before .all-barred .ensures, c .before .before .if2 .left) (ap (λ (r : Record). bestSplitOf (given (splitOf r))) (c .before .greatest .ensures))
+returns-2 c =
+    let w = number-given (found (c .before .before .before .before .before .before)) _ (sym (c .before .before .before .search-segment .ensures) ∙ c .before .no .given .1) in
+    sym (ap (λ (a : Answer Record). bestSplitOf (splitFound a)) w)
 
 pub find-best-split-spec : {M : Type 1} → statement M
-find-best-split-spec =
-    tie.close
-    (tie.spec
-    (λ c. search needs)
-    (λ c. search needs)
-    returns
-    (λ c κs. search needs)
-    returns-2
-    (λ c κs. search needs)
-    returns-3)
+find-best-split-spec = tie.close (tie.spec (λ c κs. search needs) (λ c. search needs) (λ c κs. search needs) (λ c. search needs) returns returns-2)

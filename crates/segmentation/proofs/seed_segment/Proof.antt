@@ -1,9 +1,10 @@
 -- `seed_segment` meets its contract: the search's record, or none.
 use mathlib.Core.Path.{refl, sym, _∙_}
+use native.Mathlib.Omega.{arith}
 use denote.Ref.{now}
 use Rattle.scope.specs.Gain.{gainOf}
 use Rattle.stored.proofs.Flat.{put-none}
-use Rattle.optimizer.proofs.Answered.{found-record, refused-none}
+use Rattle.optimizer.proofs.Answered.{record-some, refused-none}
 use Rattle.control.specs.Settings.{shortestOf}
 use borrow.Author.Needs.{needs}
 use Rattle.segmentation.proofs.seed_segment.Statement.{statement}
@@ -12,15 +13,17 @@ use Rattle.segmentation.proofs.seed_segment.Tie as tie
 returns : tie.Need-returns
 returns c =
     let s = c .before .before .before .before .before .before .before .before .before .args in
-    rw (refused-none (gainOf (now (s .sums)) (s .d)) (shortestOf (s .shortest)) (now (s .forbidden)) (s .segment .start .0) (s .segment .stop .0) _ (sym (c .before .before .find-best-split .ensures) ∙ c .enum-told .given .1))
+    rw (refused-none (gainOf (now (s .sums)) (s .d)) (shortestOf (s .shortest)) (now (s .forbidden)) (s .segment .start .0) (s .segment .stop .0) _ (sym (c .before .before .search-segment .ensures) ∙ c .enum-told .given .1))
     (put-none (s .at) (now (s .rows)) (now (s .gains)))
+
+add-result : tie.Need-add-result
+add-result c = let s = c .before .before .before .before .before .before .before .before .before .before .before .before .before .before .before .before .before in omega (arith, s .pre, s .fits)
 
 returns-2 : tie.Need-returns-2
 returns-2 c =
     let s = c .before .before .before .before .before .before .before .before .before .before .before .before .before .before .before .before .before .args in
-    let told = c .before .before .before .before .before .before .before .before in
     let put = c .before .before .before .before .put-record .ensures in
-    rw (found-record (gainOf (now (s .sums)) (s .d)) (shortestOf (s .shortest)) (now (s .forbidden)) (s .segment .start .0) (s .segment .stop .0) _ _ (sym (told .before .before .find-best-split .ensures) ∙ told .best-split .given .1))
+    rw (record-some (gainOf (now (s .sums)) (s .d)) (shortestOf (s .shortest)) (now (s .forbidden)) (s .segment .start .0) (s .segment .stop .0) _ (sym (c .before .before .before .before .before .before .before .before .before .before .search-segment .ensures) ∙ c .before .before .before .before .before .before .before .before .found .given .1))
     (record { rows-hold = put .0; gains-hold = put .1; told = refl })
 
 pub seed-segment-spec : {M : Type 1} → statement M
@@ -32,7 +35,7 @@ seed-segment-spec =
     (λ c. search needs)
     returns
     (λ c κs. search needs)
-    (λ c. search needs)
+    add-result
     (λ c. search needs)
     (λ c. search needs)
     returns-2)

@@ -23,18 +23,18 @@ abbrev along : List Float → ℕ → ℕ → ℕ → Float
 along g a e x = at g (x - a)
 
 abbrev Inv-loop : tie.InvT-loop
-Inv-loop curve forbidden start first size record₀ k₀ «record» k =
-    (k ≤ size) × (toRecord «record» ≡ bestWalked (toRecord record₀) (along curve) forbidden (start .0) (toRecord record₀ .stop) first k)
+Inv-loop curve shortest forbidden start size record₀ k₀ «record» k =
+    (k ≤ size) × (toRecord «record» ≡ bestWalked (toRecord record₀) (along curve) forbidden (start .0) (toRecord record₀ .stop) (start .0 + shortest .m) k)
 
 abbrev μ-loop : tie.MeasureT-loop
-μ-loop curve forbidden start first size record₀ k₀ «record» k = size - k
+μ-loop curve shortest forbidden start size record₀ k₀ «record» k = size - k
 
 loop-holds : tie.Need-loop-holds Inv-loop μ-loop
-loop-holds c = let s = c .before .before .before .before .before .before .args in let g = toRecord (c .guessed .result) in (omega arith, best-none (along (now (s .curve))) (now (s .forbidden)) (s .start .0) (g .stop) g (s .start .0 + s .shortest .m))
+loop-holds c = let s = c .before .before .before .before .args in let g = toRecord (c .guessed .result) in (omega arith, best-none (along (now (s .curve))) (now (s .forbidden)) (s .start .0) (g .stop) g (s .start .0 + s .shortest .m))
 
-add-t13 : tie.Need-add-t13 Inv-loop μ-loop
+range-row-requires : tie.Need-range-row-requires Inv-loop μ-loop
 unfolding rangeSize
-add-t13 c = omega arith
+range-row-requires c κs = (omega arith, omega arith, omega arith)
 
 value-at-requires : tie.Need-value-at-requires Inv-loop μ-loop
 unfolding rangeSize
@@ -42,26 +42,27 @@ value-at-requires c κs = omega arith
 
 loop-again : tie.Need-loop-again Inv-loop μ-loop
 loop-again c =
-    let s = c .before .before .before .before .before .before .before .before .before .before .args in
-    let loop = c .before .before .before .loop in
+    let s = c .before .before .before .before .before .before .before .before .before .args in
+    let loop = c .before .before .before .before .loop in
+    let row = c .before .before .range-row .ensures in
     let b = c .before .is-barred in
-    let g = toRecord (c .before .before .before .before .guessed .result) in
+    let g = toRecord (c .before .before .before .before .before .guessed .result) in
     let first = s .start .0 + s .shortest .m in
-    let starts : g .start ≡ s .start .0 = ap (λ (z : Record). z .start) (c .before .before .before .before .guessed .ensures) in (
+    let starts : g .start ≡ s .start .0 = ap (λ (z : Record). z .start) (c .before .before .before .before .before .guessed .ensures) in (
       omega arith,
       ⊎-elim
           (λ w. ap toRecord (w .4)
           ∙ w .3 .ensures
-          ∙ best-tried (along (now (s .curve))) (now (s .forbidden)) (s .start .0) (g .stop) g starts refl first (loop .k) _ _
-          (sym (b .ensures) ∙ not-true (b .result) (w .0 .taken)) (loop .inv .1) (w .2 .ensures ∙ ap (at (now (s .curve))) (w .1 .ensures)))
-          (λ w. ap toRecord (w .1) ∙ loop .inv .1 ∙ best-barred (along (now (s .curve))) (now (s .forbidden)) (s .start .0) (g .stop) g first (loop .k) (sym (b .ensures) ∙ not-false (b .result) (w .0 .left)))
+          ∙ rw row (best-tried (along (now (s .curve))) (now (s .forbidden)) (s .start .0) (g .stop) g starts refl first (loop .k) _ _
+          (rw row at (sym (b .ensures) ∙ not-true (b .result) (w .0 .taken))) (loop .inv .1) (rw row at (w .2 .ensures ∙ ap (at (now (s .curve))) (w .1 .ensures)))))
+          (λ w. ap toRecord (w .1) ∙ loop .inv .1 ∙ best-barred (along (now (s .curve))) (now (s .forbidden)) (s .start .0) (g .stop) g first (loop .k) (rw row at (sym (b .ensures) ∙ not-false (b .result) (w .0 .left))))
           (c .if1 .came),
     )
 
 returns : tie.Need-returns Inv-loop μ-loop
 unfolding picked
 returns c =
-    let s = c .before .before .before .before .before .before .before .before .args in
+    let s = c .before .before .before .before .before .before .args in
     let e : c .before .loop .k ≡ c .before .before .before .range-size .result = omega arith in
     let first = s .start .0 + s .shortest .m in
     let walked : Record → ℕ → Record = λ z k. bestWalked z (along (now (s .curve))) (now (s .forbidden)) (s .start .0) (z .stop) first k in
@@ -76,11 +77,10 @@ single-find-best-split-spec =
     (tie.spec
     Inv-loop
     μ-loop
-    (λ c. search needs)
     (λ c κs. search needs)
     (λ c κs. search needs)
     loop-holds
-    add-t13
+    range-row-requires
     (λ c κs. search needs)
     (λ c κs. search needs)
     value-at-requires

@@ -5,11 +5,10 @@ use borrow.Author.Needs.{needs}
 use Rattle.layers.proofs.Layer.stop.Statement.{statement}
 use Rattle.layers.proofs.Layer.stop.Tie as tie
 
-add-stop : tie.Need-add-stop
-add-stop c =
-    let s = c .before .before in
-    let l = s .pre .0 in
-    omega (arith, l .long, layerLength-ceiling (s .args .self .value) (l .is-layer) (s .args .self .n) (l .rows))
+position-from-requires : tie.Need-position-from-requires
+position-from-requires c κs =
+    let l = c .pre .0 in
+    omega (arith, l .long, layerLength-ceiling (c .args .self .value) (l .is-layer) (c .args .self .n) (l .rows))
 
 pub stop-spec : {M : Type 1} → statement M
-stop-spec = tie.close (tie.spec add-stop (λ c. search needs) (λ c. search needs))
+stop-spec = tie.close (tie.spec position-from-requires (λ c. search needs) (λ c. search needs))

@@ -1,7 +1,7 @@
 -- `all_barred` meets its contract: no row passed is free.
 use mathlib.Core.Path.{_≡_, sym, _∙_}
 use mathlib.Core.Bool.{true}
-use Prim.Native.Nat.{_-_, _≤_}
+use Prim.Native.Nat.{_+_, _-_, _≤_}
 use native.Mathlib.Omega.{arith}
 use borrow.Author.Tests.{not-true, not-false}
 use denote.Ref.{now}
@@ -14,29 +14,32 @@ use Rattle.optimizer.proofs.candidates.all_barred.Statement.{statement}
 use Rattle.optimizer.proofs.candidates.all_barred.Tie as tie
 
 abbrev Inv-loop : tie.InvT-loop
-Inv-loop forbidden first size k₀ k = (k ≤ size) × (isEmpty (walked forbidden first k) ≡ true)
+Inv-loop forbidden shortest start size k₀ k = (k ≤ size) × (isEmpty (walked forbidden (start .0 + shortest .m) k) ≡ true)
 
 abbrev μ-loop : tie.MeasureT-loop
-μ-loop forbidden first size k₀ k = size - k
+μ-loop forbidden shortest start size k₀ k = size - k
 
 loop-holds : tie.Need-loop-holds Inv-loop μ-loop
 loop-holds c = (omega arith, none-yet _ _)
 
-add-t9 : tie.Need-add-t9 Inv-loop μ-loop
+range-row-requires : tie.Need-range-row-requires Inv-loop μ-loop
 unfolding rangeSize
-add-t9 c = omega arith
+range-row-requires c κs = (omega arith, omega arith, omega arith)
 
 returns : tie.Need-returns Inv-loop μ-loop
 returns c =
-    let s = c .before .before .before .before .before .before .before .before .args in
-    sym (barred-some (shortestOf (s .shortest)) (now (s .forbidden)) (s .start .0) (s .stop .0) (c .before .before .before .loop .k) (omega arith) (sym (c .before .is-barred .ensures) ∙ not-true (c .before .is-barred .result) (c .if1 .taken)))
+    let s = c .before .before .before .before .before .before .before .args in
+    let free = rw (c .before .before .range-row .ensures) at (sym (c .before .is-barred .ensures) ∙ not-true (c .before .is-barred .result) (c .if1 .taken)) in
+    sym (barred-some (shortestOf (s .shortest)) (now (s .forbidden)) (s .start .0) (s .stop .0) (c .before .before .before .before .loop .k) (omega arith) free)
 
 loop-again : tie.Need-loop-again Inv-loop μ-loop
-loop-again c = (omega arith, none-walked _ _ (c .before .before .before .loop .k) (sym (c .before .is-barred .ensures) ∙ not-false (c .before .is-barred .result) (c .if1 .left)) (c .before .before .before .loop .inv .1))
+loop-again c =
+    let barred = rw (c .before .before .range-row .ensures) at (sym (c .before .is-barred .ensures) ∙ not-false (c .before .is-barred .result) (c .if1 .left)) in
+    (omega arith, none-walked _ _ (c .before .before .before .before .loop .k) barred (c .before .before .before .before .loop .inv .1))
 
 returns-2 : tie.Need-returns-2 Inv-loop μ-loop
 returns-2 c =
-    let s = c .before .before .before .before .before .before .args in
+    let s = c .before .before .before .before .args in
     let e : c .before .loop .k ≡ c .before .before .range-size .result = omega arith in
     rw (c .before .before .range-size .ensures) (barred-all (shortestOf (s .shortest)) (now (s .forbidden)) (s .start .0) (s .stop .0) (rw (← c .before .before .range-size .ensures, ← e) (c .before .loop .inv .1)))
 
@@ -46,10 +49,9 @@ all-barred-spec =
     (tie.spec
     Inv-loop
     μ-loop
-    (λ c. search needs)
     (λ c κs. search needs)
     loop-holds
-    add-t9
+    range-row-requires
     (λ c κs. search needs)
     returns
     (λ c. search needs)

@@ -5,6 +5,7 @@ use Prim.Native.Nat.{_+_, _-_}
 use native.Mathlib.Omega.{arith}
 use borrow.Author.Tests.{not-true, not-false}
 use denote.Ref.{now}
+use Rattle.scope.specs.Candidates.{rangeSize}
 use Rattle.optimizer.proofs.Walk.{State, begins, passed, stored, walked-all}
 use Rattle.control.specs.Settings.{shortestOf}
 use borrow.Author.Needs.{needs}
@@ -12,27 +13,32 @@ use Rattle.optimizer.proofs.candidates.split_candidates.Statement.{stat
 use Rattle.optimizer.proofs.candidates.split_candidates.Tie as tie
 
 abbrev Inv-loop : tie.InvT-loop
-Inv-loop forbidden rows₀ first size count₀ k₀ rows count k = State forbidden first size rows₀ rows count k
+Inv-loop forbidden shortest start rows₀ size count₀ k₀ rows count k = State forbidden (start .0 + shortest .m) size rows₀ rows count k
 
 abbrev μ-loop : tie.MeasureT-loop
-μ-loop forbidden rows₀ first size count₀ k₀ rows count k = size - k
+μ-loop forbidden shortest start rows₀ size count₀ k₀ rows count k = size - k
 
 loop-holds : tie.Need-loop-holds Inv-loop μ-loop
 loop-holds c = begins _ _ _ _
 
+range-row-requires : tie.Need-range-row-requires Inv-loop μ-loop
+unfolding rangeSize
+range-row-requires c κs = (omega arith, omega arith, omega arith)
+
 loop-again : tie.Need-loop-again Inv-loop μ-loop
 loop-again c =
-    let s = c .before .before .before .before .before .before .before .before .before .args in
-    let at = c .before .before .before .loop in
+    let s = c .before .before .before .before .before .before .before .before .args in
+    let at = c .before .before .before .before .loop in
     let b = c .before .is-barred in
+    let row = c .before .before .range-row .ensures in
     ⊎-elim
-    (λ w. rw (w .1, w .2) (stored (now (s .forbidden)) (s .start .0 + s .shortest .m) (c .before .before .before .before .range-size .result) (now (s .rows)) (at .rows) (at .count) (at .k) (omega arith) (at .inv) (omega arith) (sym (b .ensures) ∙ not-true (b .result) (w .0 .taken))))
-    (λ w. rw (w .1, w .2) (passed (now (s .forbidden)) (s .start .0 + s .shortest .m) (c .before .before .before .before .range-size .result) (now (s .rows)) (at .rows) (at .count) (at .k) (omega arith) (at .inv) (sym (b .ensures) ∙ not-false (b .result) (w .0 .left))))
+    (λ w. rw (w .1, w .2, row) (stored (now (s .forbidden)) (s .start .0 + s .shortest .m) (c .before .before .before .before .before .range-size .result) (now (s .rows)) (at .rows) (at .count) (at .k) (omega arith) (at .inv) (omega arith) (rw row at (sym (b .ensures) ∙ not-true (b .result) (w .0 .taken)))))
+    (λ w. rw (w .1, w .2) (passed (now (s .forbidden)) (s .start .0 + s .shortest .m) (c .before .before .before .before .before .range-size .result) (now (s .rows)) (at .rows) (at .count) (at .k) (omega arith) (at .inv) (rw row at (sym (b .ensures) ∙ not-false (b .result) (w .0 .left)))))
     (c .if1 .came)
 
 returns : tie.Need-returns Inv-loop μ-loop
 returns c =
-    let s = c .before .before .before .before .before .before .before .args in
+    let s = c .before .before .before .before .before .args in
     let i = c .before .loop .inv in
     let e : c .before .loop .k ≡ c .before .before .range-size .result = omega arith in
     let all = walked-all (shortestOf (s .shortest)) (now (s .forbidden)) (s .start .0) (s .stop .0) in
@@ -44,10 +50,9 @@ split-candidates-spec =
     (tie.spec
     Inv-loop
     μ-loop
-    (λ c. search needs)
     (λ c κs. search needs)
     loop-holds
-    (λ c. search needs)
+    range-row-requires
     (λ c κs. search needs)
     (λ c. search needs)
     (λ c. search needs)
