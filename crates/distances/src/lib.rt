@@ -1,5 +1,6 @@
 // Each row's order of all rows by squared distance. Inside the library. After classifier/knn.rs.
 use order::order_row;
+use rows::Position;
 ghost use mathlib.Core.Path.{_≡_};
 ghost use Prim.Native.Nat.{_+_, _-_, _*_, _<_, _≤_};
 ghost use lib.ListN.{length};
@@ -8,12 +9,12 @@ ghost use Rattle.scope.specs.Neighbours as scope;
 ghost use Rattle.distances.specs.Matrix.{Matrix};
 
 // The squared distance of two rows.
-fn square_distance(cells: &[f64], d: usize, i: usize, j: usize) -> f64
-    requires { ⌜ (length (now cells) ≤ 65536) × (i * d + d ≤ length (now cells)) × (j * d + d ≤ length (now cells)) ⌝ }
-    ensures { λ r. ⌜ r ≡ scope.squares (now (cells .entry)) d i j d ⌝ }
+fn square_distance(cells: &[f64], d: usize, i: Position, j: Position) -> f64
+    requires { ⌜ (length (now cells) ≤ 65536) × (i .0 * d + d ≤ length (now cells)) × (j .0 * d + d ≤ length (now cells)) ⌝ }
+    ensures { λ r. ⌜ r ≡ scope.squares (now (cells .entry)) d (i .0) (j .0) d ⌝ }
 {
-    let a = i * d;
-    let b = j * d;
+    let a = i.0 * d;
+    let b = j.0 * d;
     let mut sum = 0.0;
     for c in 0..d {
         let difference = cells[a + c] - cells[b + c];
@@ -23,12 +24,12 @@ fn square_distance(cells: &[f64], d: usize, i: usize, j: usize) -> f64
 }
 
 // The squared distances of row i to all rows.
-fn distances_from(cells: &[f64], d: usize, i: usize, ds: &mut [f64])
-    requires { ⌜ (d ≤ 64) × (length (now ds) ≤ 1024) × (i < length (now ds)) × (length (now cells) ≡ length (now ds) * d) ⌝ }
-    ensures { λ _. ⌜ now (ds .exit) ≡ scope.distances (now (cells .entry)) d i (length (now (ds .entry))) ⌝ }
+fn distances_from(cells: &[f64], d: usize, i: Position, ds: &mut [f64])
+    requires { ⌜ (d ≤ 64) × (length (now ds) ≤ 1024) × (i .0 < length (now ds)) × (length (now cells) ≡ length (now ds) * d) ⌝ }
+    ensures { λ _. ⌜ now (ds .exit) ≡ scope.distances (now (cells .entry)) d (i .0) (length (now (ds .entry))) ⌝ }
 {
     for j in 0..ds.len() {
-        ds[j] = square_distance(cells, d, i, j);
+        ds[j] = square_distance(cells, d, i, Position(j));
     }
 }
 
@@ -47,7 +48,7 @@ pub fn calculate_ordering(
     for i in 0..n {
         let first = i * n;
         let end = first + n;
-        distances_from(cells, d, i, &mut distances[..n]);
+        distances_from(cells, d, Position(i), &mut distances[..n]);
         order_row(&distances[..n], &mut ordering[first..end]);
     }
 }

@@ -1,5 +1,6 @@
 // The lines that the program writes, into a lent slice from a position on; each function answers the position behind what it wrote. Inside the library.
 // A line has at most 84 bytes: that is the room that each asks.
+use optimizer::optimizer_result::GainRecord;
 ghost use mathlib.Core.Path.{_≡_};
 ghost use mathlib.Core.List.{[], _∷_, _++_};
 ghost use Prim.Native.Nat.{_+_, _≤_, _<_};
@@ -7,6 +8,7 @@ ghost use lib.ListN.{length};
 ghost use lib.Ieee.{binary64, toBits};
 ghost use Rattle.scope.specs.Text.{bytes, decimal, hexOf, line};
 ghost use Rattle.scope.specs.Program.{cutLine};
+ghost use Rattle.optimizer.specs.Records.{toRecord};
 ghost use Rattle.report.specs.Written.{Written};
 
 // Bytes as they stand.
@@ -119,22 +121,15 @@ fn bits_of(gain: f64) -> u64
 }
 
 // A cut: its row, the gain's bits and the chosen record's ends.
-pub fn put_cut(
-    out: &mut [u8],
-    at: usize,
-    split: usize,
-    gain: f64,
-    start: usize,
-    stop: usize,
-) -> usize
+pub fn put_cut(out: &mut [u8], at: usize, cut: GainRecord) -> usize
     requires { ⌜ at + 84 ≤ length (now out) ⌝ }
-    ensures { λ r. ⌜ Written (now (out .entry)) at (cutLine (record { start = start; stop = stop; split = split; gain = gain })) (now (out .exit)) r ⌝ }
+    ensures { λ r. ⌜ Written (now (out .entry)) at (cutLine (toRecord cut)) (now (out .exit)) r ⌝ }
     ensures most { λ r. ⌜ r ≤ at + 84 ⌝ }
 {
     let a = put_text(out, at, b"cut\t");
-    let b = put_number(out, a, split as u64, b'\t');
-    let c = put_hex(out, b, bits_of(gain));
+    let b = put_number(out, a, cut.best_split.0 as u64, b'\t');
+    let c = put_hex(out, b, bits_of(cut.max_gain));
     let d = put_byte(out, c, b'\t');
-    let e = put_number(out, d, start as u64, b'\t');
-    put_number(out, e, stop as u64, b'\n')
+    let e = put_number(out, d, cut.start.0 as u64, b'\t');
+    put_number(out, e, cut.stop.0 as u64, b'\n')
 }

@@ -2,6 +2,7 @@
 // A run without layers chooses direct records alone, so a cut's record is the first one made that splits there (proofs/Lookup.antt).
 use binary_segmentation::tree::Counts;
 use optimizer::optimizer_result::GainRecord;
+use rows::Position;
 use stored::records;
 ghost use mathlib.Core.Path.{_≡_};
 ghost use Prim.Native.Nat.{_+_, _*_, _≤_};
@@ -17,14 +18,14 @@ enum Found {
 }
 
 // The first of the records that splits at the row.
-fn record_of(rows: &[usize], gains: &[f64], count: usize, row: usize) -> Found
+fn record_of(rows: &[usize], gains: &[f64], count: usize, row: Position) -> Found
     requires { ⌜ (3 * count ≤ length (now rows)) × (count ≤ length (now gains)) ⌝ }
-    ensures { λ r. ⌜ r ≡ foundOf (firstAt row (recordsIn (now (rows .entry)) (now (gains .entry)) count)) ⌝ }
+    ensures { λ r. ⌜ r ≡ foundOf (firstAt (row .0) (recordsIn (now (rows .entry)) (now (gains .entry)) count)) ⌝ }
 {
     let mut k = 0;
     while k < count {
         let found = records::record_at(rows, gains, k);
-        if found.best_split.0 == row {
+        if found.best_split.0 == row.0 {
             return Found::Record(found);
         }
         k += 1;
@@ -39,21 +40,14 @@ fn put_line(
     rows: &[usize],
     gains: &[f64],
     count: usize,
-    row: usize,
+    row: Position,
 ) -> usize
     requires { ⌜ (at + 84 ≤ length (now out)) × (3 * count ≤ length (now rows)) × (count ≤ length (now gains)) ⌝ }
-    ensures { λ r. ⌜ Written (now (out .entry)) at (lineOf (firstAt row (recordsIn (now (rows .entry)) (now (gains .entry)) count))) (now (out .exit)) r ⌝ }
+    ensures { λ r. ⌜ Written (now (out .entry)) at (lineOf (firstAt (row .0) (recordsIn (now (rows .entry)) (now (gains .entry)) count))) (now (out .exit)) r ⌝ }
     ensures most { λ r. ⌜ r ≤ at + 84 ⌝ }
 {
     match record_of(rows, gains, count, row) {
-        Found::Record(cut) => report::put_cut(
-            out,
-            at,
-            cut.best_split.0,
-            cut.max_gain,
-            cut.start.0,
-            cut.stop.0,
-        ),
+        Found::Record(cut) => report::put_cut(out, at, cut),
         Found::Nothing => at,
     }
 }
@@ -74,7 +68,7 @@ fn put_lines(
     let mut next = at;
     let mut i = 0;
     while i < cuts.len() {
-        next = put_line(out, next, rows, gains, count, cuts[i]);
+        next = put_line(out, next, rows, gains, count, Position(cuts[i]));
         i += 1;
     }
     next

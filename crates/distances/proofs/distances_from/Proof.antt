@@ -22,7 +22,7 @@ unfolding distances
 next cells d i j ds₀ ds v g h e = rw (e, g) (store-more (distances cells d i j) ds₀ j (squares cells d i j d) (length-distances cells d i j) h ∙ rw (add-one j))
 
 abbrev Inv-loop : tie.InvT-loop
-Inv-loop cells d i ds₀ j₀ j-end ds j = (j ≤ length ds₀) × (length ds ≡ length ds₀) × (ds ≡ distances cells d i j ++ drop j ds₀)
+Inv-loop cells d i ds₀ j₀ j-end ds j = (j ≤ length ds₀) × (length ds ≡ length ds₀) × (ds ≡ distances cells d (i .0) j ++ drop j ds₀)
 
 abbrev μ-loop : tie.MeasureT-loop
 μ-loop cells d i ds₀ j₀ j-end ds j = length ds₀ - j
@@ -35,13 +35,13 @@ square-distance-requires : tie.Need-square-distance-requires Inv-loop μ-loop
 square-distance-requires c κs =
     let s = c .before .before .before .before in
     let n = length (now (s .args .ds)) in
-    (omega (arith, mul-le-mul-right (s .args .d) (s .pre .1), s .pre .0, s .pre .3), row-in (s .args .i) n (s .args .d) _ (s .pre .2) (s .pre .3), row-in (c .before .loop .j) n (s .args .d) _ (omega arith) (s .pre .3))
+    (omega (arith, mul-le-mul-right (s .args .d) (s .pre .1), s .pre .0, s .pre .3), row-in (s .args .i .0) n (s .args .d) _ (s .pre .2) (s .pre .3), row-in (c .before .loop .j) n (s .args .d) _ (omega arith) (s .pre .3))
 
 loop-again : tie.Need-loop-again Inv-loop μ-loop
 loop-again c =
     let s = c .before .before .before .before .before in
     let at = c .before .before .loop in
-    (omega arith, simp length-set (at .inv .1), next (now (s .args .cells)) (s .args .d) (s .args .i) (at .j) (now (s .args .ds)) (at .ds) _ (c .square-distance .ensures) (omega arith) (at .inv .2))
+    (omega arith, simp length-set (at .inv .1), next (now (s .args .cells)) (s .args .d) (s .args .i .0) (at .j) (now (s .args .ds)) (at .ds) _ (c .square-distance .ensures) (omega arith) (at .inv .2))
 
 returns : tie.Need-returns Inv-loop μ-loop
 returns c =

@@ -23,8 +23,8 @@ abbrev μ-loop : tie.MeasureT-loop
 loop-holds : tie.Need-loop-holds Inv-loop μ-loop
 loop-holds c = let s = c .before .before .before .before .args in (omega arith, omega arith, refl, lines-none (recordsIn (now (s .rows)) (now (s .gains)) (s .count)) (now (s .cuts)) (now (s .out)) (s .at))
 
-mul-put-line : tie.Need-mul-put-line Inv-loop μ-loop
-mul-put-line c = omega arith
+mul-t9 : tie.Need-mul-t9 Inv-loop μ-loop
+mul-t9 c = omega arith
 
 put-line-requires : tie.Need-put-line-requires Inv-loop μ-loop
 put-line-requires c κs = (omega arith, omega arith, omega arith)
@@ -56,7 +56,7 @@ put-lines-spec =
     Inv-loop
     μ-loop
     loop-holds
-    mul-put-line
+    mul-t9
     (λ c. search needs)
     put-line-requires
     (λ c. search needs)

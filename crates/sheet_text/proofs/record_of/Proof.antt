@@ -9,7 +9,7 @@ use Rattle.sheet_text.proofs.record_of.Statement.{statement}
 use Rattle.sheet_text.proofs.record_of.Tie as tie
 
 abbrev Inv-loop : tie.InvT-loop
-Inv-loop rows gains count row k₀ k = (k ≤ count) × Unseen rows gains count row k
+Inv-loop rows gains count row k₀ k = (k ≤ count) × Unseen rows gains count (row .0) k
 
 abbrev μ-loop : tie.MeasureT-loop
 μ-loop rows gains count row k₀ k = count - k
@@ -18,10 +18,10 @@ loop-holds : tie.Need-loop-holds Inv-loop μ-loop
 loop-holds c = (omega arith, unseen-none)
 
 returns : tie.Need-returns Inv-loop μ-loop
-returns c = sym (ap foundOf (seen (omega arith) (c .before .before .record-at .ensures) (c .before .before .before .before .loop .inv .1) (c .if1 .taken)))
+returns c = sym (ap foundOf (seen (omega arith) (c .before .before .before .record-at .ensures) (c .before .before .before .before .before .loop .inv .1) (c .if1 .taken)))
 
 loop-again : tie.Need-loop-again Inv-loop μ-loop
-loop-again c = (omega arith, unseen-more (omega arith) (c .before .before .record-at .ensures) (c .before .before .before .before .loop .inv .1) (c .if1 .left))
+loop-again c = (omega arith, unseen-more (omega arith) (c .before .before .before .record-at .ensures) (c .before .before .before .before .before .loop .inv .1) (c .if1 .left))
 
 returns-2 : tie.Need-returns-2 Inv-loop μ-loop
 returns-2 c = sym (ap foundOf (unseen-all (omega arith) (c .before .loop .inv .1)))
