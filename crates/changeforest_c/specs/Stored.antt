@@ -4,14 +4,17 @@ use mathlib.Core.Bool.{Bool}
 use mathlib.Core.List.{List, map}
 use Prim.Native.Nat.{ℕ}
 use lib.Ieee.{Float}
+use lib.ListN.{length}
 use Rattle.scope.specs.Lists.{holding}
 use Rattle.scope.specs.Asked.{Matrix, Shortest, Settings}
-use Rattle.scope.specs.Calls.{lengthAnswer, CandidatesAsked, candidatesCall, GainAsked, gainCall, SearchAsked, searchCall, seededCall, PickAsked, pickAnswer, GuessesAsked, guessesAnswer, PermutationAsked, permutationAnswer}
+use Rattle.scope.specs.Calls.{lengthAnswer, CandidatesAsked, candidatesCall, GainAsked, gainCall, SearchAsked, searchCall, seededCall, TreeTold, runOf, countedCall, countsTold, PickAsked, pickAnswer, GuessesAsked, guessesAnswer, PermutationAsked, permutationAnswer}
 use Rattle.stored.specs.Flat.{flatRows, gainsOf}
 use Rattle.segmentation.specs.Seeds.{Slices as RecordSlices, seededAsked}
 use Rattle.node.specs.Nodes.{toNode}
-use Rattle.entry_tree.specs.Left.{Slices, treeTold}
-use Rattle.told.specs.Told.{numberOf, valueOr, splitOr, gainOr, entryOr, lengthOr, counterOr, pOr, significantOr, countsOr}
+use Rattle.demand.specs.Demand.{Demand}
+use Rattle.prepared.specs.Answers.{treeAsked}
+use Rattle.entry_tree.specs.Left.{Slices, recordSlices}
+use Rattle.told.specs.Told.{numberOf, valueOr, splitOr, gainOr, entryOr, lengthOr, counterOr, pOr, significantOr}
 
 -- the minimal length
 pub record LengthStored (relative : Float) (n r m₀ m₁ : ℕ) : Type 0 where
@@ -45,15 +48,20 @@ pub record SeededStored (x : Matrix) (short : Shortest) (forbidden : List ℕ) (
   pub gains : after .gains ≡ holding (gainsOf (seededCall (seededAsked x short forbidden layers before) .records)) (before .gains)
   pub count : count₁ ≡ valueOr (seededCall (seededAsked x short forbidden layers before) .answer) count₀
 
--- the tree's nodes, its records, its cuts, the prefix sums, and the three counts
+-- what follows of a tree where these are lent, and so many counts
+abbrev pub countedTold : Matrix → Settings → Slices → List ℕ → TreeTold
+countedTold x s lent counts = countedCall (treeAsked x s (recordSlices lent) (length (lent .nodes)) (length (lent .cuts))) (length counts)
+
+-- the tree's nodes, its records, its cuts, the prefix sums, and the three counts; and of a run that is not refused, the demand on its tree and its sheet
 pub record TreeStored (x : Matrix) (s : Settings) (r : ℕ) (before after : Slices) (counts₀ counts₁ : List ℕ) : Type 0 where
-  pub number : r ≡ numberOf (treeTold x s before .answer)
-  pub sums : after .sums ≡ holding (treeTold x s before .sums) (before .sums)
-  pub rows : after .rows ≡ holding (flatRows (treeTold x s before .records)) (before .rows)
-  pub gains : after .gains ≡ holding (gainsOf (treeTold x s before .records)) (before .gains)
-  pub nodes : after .nodes ≡ holding (map toNode (treeTold x s before .nodes)) (before .nodes)
-  pub cuts : after .cuts ≡ holding (treeTold x s before .cuts) (before .cuts)
-  pub counts : counts₁ ≡ countsOr (treeTold x s before .answer) counts₀
+  pub number : r ≡ numberOf (countedTold x s before counts₀ .answer)
+  pub sums : after .sums ≡ holding (countedTold x s before counts₀ .sums) (before .sums)
+  pub rows : after .rows ≡ holding (flatRows (countedTold x s before counts₀ .records)) (before .rows)
+  pub gains : after .gains ≡ holding (gainsOf (countedTold x s before counts₀ .records)) (before .gains)
+  pub nodes : after .nodes ≡ holding (map toNode (countedTold x s before counts₀ .nodes)) (before .nodes)
+  pub cuts : after .cuts ≡ holding (countedTold x s before counts₀ .cuts) (before .cuts)
+  pub counts : counts₁ ≡ holding (countsTold (countedTold x s before counts₀ .answer)) counts₀
+  pub demand : r ≡ 0 → Demand (runOf x s)
 
 -- the pick and its gain
 pub record PickStored (a : PickAsked) (r split₀ split₁ : ℕ) (gain₀ gain₁ : Float) : Type 0 where

@@ -5,7 +5,7 @@ use node::Node;
 ghost use Rattle.changeforest_c.specs.Stored.{TreeStored};
 
 // The tree of the run: its nodes in preorder into nodes, its cuts into cuts; start, stop and best split of each record into rows, its gain
-// into gains; sums takes the prefix sums. How many nodes, records and cuts there are goes into counts, as far as it has room.
+// into gains; sums takes the prefix sums. How many nodes, records and cuts there are goes into counts, which has three entries or is refused.
 #[no_mangle]
 pub extern "C" fn changeforest_tree(
     cells: &[f64],
@@ -29,6 +29,7 @@ pub extern "C" fn changeforest_tree(
         shortest,
         threshold,
     };
+    let room = told::counted_room(nodes.len(), counts.len());
     let grown = entry_tree::binary_segmentation(
         cells,
         n,
@@ -39,7 +40,7 @@ pub extern "C" fn changeforest_tree(
         sums,
         rows,
         gains,
-        nodes,
+        &mut nodes[..room],
         cuts,
     );
     told::tell(grown, counts)

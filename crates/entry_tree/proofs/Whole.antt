@@ -34,6 +34,7 @@ use Rattle.prepared.proofs.Clean.{TreeClean, tree-clean}
 use Rattle.entry_tree.specs.declared.Grown.the-variants.{Counted, Refused}
 use Rattle.entry_tree.specs.Answers.{grownOf}
 use Rattle.entry_tree.specs.Left.{Slices, recordSlices, TreeLeft}
+use Rattle.entry_tree.proofs.Admitted.{admitted}
 
 -- what is told later stands over what was told before
 told-on : {A : Type 0} (xs ys l : List A) → holding (xs ++ ys) (holding xs l) ≡ holding (xs ++ ys) l
@@ -82,6 +83,7 @@ module _ (x : Matrix) (s : Settings) (forbidden : List ℕ) (layers : List Float
         gains = said .gains ∙ sym (held-refused is some gainsOf (seedsOf a) (before .gains) refl) ∙ held-refused is some gainsOf (recordsOf q) (before .gains) refl;
         nodes = held-refused is some (map toNode) (nodes 0 (treeOf q)) (before .nodes) refl;
         cuts = held-refused is some (λ l. l) (sheet (treeOf q)) (before .cuts) refl;
+        demand = λ c w. never (cc);
       }
 
   module _ (len count : ℕ) (said : Prepares a (Seeded len count) (recordSlices before) front) where
@@ -147,4 +149,5 @@ module _ (x : Matrix) (s : Settings) (forbidden : List ℕ) (layers : List Float
           gains = held-given (told .0) refl gainsOf (seedRecords q ++ made) (before .gains) (h .gains ∙ rw (front-gains, gains-append (seedRecords q) made) (told-on (gainsOf (seedRecords q)) (gainsOf made) (before .gains)));
           nodes = held-given (told .0) refl (map toNode) (nodes 0 (treeOf q)) (before .nodes) (h .nodes);
           cuts = held-given (told .0) refl (λ c. c) (sheet (treeOf q)) (before .cuts) (h .cuts);
+          demand = λ c w. admitted a (sym (told .0));
         }

@@ -1,4 +1,4 @@
--- What a call for the tree leaves: its answer, and what each lent slice holds.
+-- What a call for the tree leaves: its answer, and what each lent slice holds; and of a run that is not refused, the demand on its tree and its sheet.
 use mathlib.Core.Path.{_≡_}
 use mathlib.Core.List.{List, map}
 use Prim.Native.Nat.{ℕ}
@@ -6,13 +6,16 @@ use lib.Ieee.{Float}
 use lib.ListN.{length}
 use Rattle.scope.specs.Lists.{holding}
 use Rattle.scope.specs.Asked.{Matrix, Settings}
-use Rattle.scope.specs.Calls.{TreeTold, treeCall}
+use Rattle.scope.specs.Calls.{TreeTold, runOf, treeCall}
+use Rattle.demand.specs.Demand.{Demand}
 use Rattle.stored.specs.Flat.{flatRows, gainsOf}
 use Rattle.segmentation.specs.Seeds.{Slices as RecordSlices}
 use Rattle.node.specs.declared.Node.{Node}
 use Rattle.node.specs.Nodes.{toNode}
 use Rattle.prepared.specs.Answers.{treeAsked}
+use Rattle.binary_segmentation.specs.declared.tree.Counts.{Counts}
 use Rattle.entry_tree.specs.declared.Grown.{Grown}
+use Rattle.entry_tree.specs.declared.Grown.the-variants as grown
 use Rattle.entry_tree.specs.Answers.{grownOf, nodeRoom}
 
 -- the lent slices: sums, records flat, nodes, cuts
@@ -38,6 +41,7 @@ pub record TreeLeft (x : Matrix) (s : Settings) (r : Grown) (before after : Slic
   pub gains : after .gains ≡ holding (gainsOf (treeTold x s before .records)) (before .gains)
   pub nodes : after .nodes ≡ holding (map toNode (treeTold x s before .nodes)) (before .nodes)
   pub cuts : after .cuts ≡ holding (treeTold x s before .cuts) (before .cuts)
+  pub demand : (c : Counts) → r ≡ grown.Counted c → Demand (runOf x s)
 
 -- ---- for a caller with no use for the nodes: their room is that of any run's
 
@@ -58,3 +62,4 @@ pub record PointsLeft (x : Matrix) (s : Settings) (r : Grown) (before after : Po
   pub rows : after .rows ≡ holding (flatRows (pointsTold x s before .records)) (before .rows)
   pub gains : after .gains ≡ holding (gainsOf (pointsTold x s before .records)) (before .gains)
   pub cuts : after .cuts ≡ holding (pointsTold x s before .cuts) (before .cuts)
+  pub demand : (c : Counts) → r ≡ grown.Counted c → Demand (runOf x s)

@@ -24,8 +24,8 @@ use borrow.Rule.Slice.Part.{keptP, sl-relendᵖ, sl-relent-backᵖˡ}
 use borrow.Table.Elements.{same-len}
 use denote.RattleType.{RattleType}
 use denote.Slice.{sliceVal}
-use Rattle.lent.proofs.Held.{Unique, at-list, last-is, slice, common, token, says-list}
-use Rattle.lent.proofs.First.{firstOf, keptOf as keptShared, lends-first, comes-first}
+use Rattle.lent.proofs.Held.{Unique, unique, Good, at-list, last-is, slice, common, token, says-list}
+use Rattle.lent.proofs.First.{firstOf, first-good, keptOf as keptShared, lends-first, comes-first}
 use Rattle.lent.proofs.Locals.{Slot, Places, env, cells}
 use Rattle.lent.proofs.Walk.{then, Walk}
 use Rattle.lent.proofs.Calls.{upto, past}
@@ -33,6 +33,11 @@ use Rattle.lent.proofs.Between.{rest, Between, in-kept, out, out-kept, 
 
 abbrev pub frontOf : {X : Type 0} → Unique X → ℕ → ℕ → GName → Unique X
 frontOf a k ν δ = record { κ = ν ∷ []; q = fullShare; γ = δ; b = a .b; o = a .o; m = k; list = take k (a .list) }
+
+pub front-good : (R : RattleType) (a : Unique (R .Denot)) (k ν : ℕ) (δ : GName) → k ≤ length (a .list) → Good (unique R) a → Good (unique R) (frontOf a k ν δ)
+front-good R a k ν δ few good =
+    let long = length-take-le k (a .list) few in
+    (long, rw long at (first-good R a k ν δ good))
 
 abbrev pub backAt : {X : Type 0} → Unique X → ℕ → List X → Unique X
 backAt a k l = at-list a (l ++ after k (a .list))

@@ -9,7 +9,7 @@ use borrow.Author.Tests.{leb-true}
 use lib.Dec.{leb}
 use lib.Ieee.{Float}
 use Rattle.scope.specs.Refusals.{Test, test, firstOf}
-use Rattle.scope.specs.Calls.{lengthTests, CandidatesAsked, candidatesTests, GainAsked, gainTests, SearchAsked, searchTests, SeededAsked, seededTests, TreeAsked, treeTests, OrderingAsked, orderingTests, PredictAsked, predictTests, CurveAsked, curveTests, PickAsked, pickTests, GuessesAsked, guessesTests, PermutationAsked, permutationTests}
+use Rattle.scope.specs.Calls.{lengthTests, CandidatesAsked, candidatesTests, GainAsked, gainTests, SearchAsked, searchTests, SeededAsked, seededTests, TreeAsked, treeTests, countedTests, OrderingAsked, orderingTests, PredictAsked, predictTests, CurveAsked, curveTests, PickAsked, pickTests, GuessesAsked, guessesTests, PermutationAsked, permutationTests}
 use Rattle.scope.specs.Program.{Deck, deckTests}
 use Rattle.scope.proofs.Members.{first-of, second-of}
 
@@ -68,6 +68,7 @@ pub record InOrder : Type 0 where
   pub search : (a : SearchAsked) → inOrder 1 (searchTests a) ≡ true
   pub seeded : (a : SeededAsked) → inOrder 1 (seededTests a) ≡ true
   pub tree : (a : TreeAsked) → inOrder 1 (treeTests a) ≡ true
+  pub counted : (a : TreeAsked) (counts : ℕ) → inOrder 1 (countedTests a counts) ≡ true
   pub ordering : (a : OrderingAsked) → inOrder 1 (orderingTests a) ≡ true
   pub predict : (a : PredictAsked) → inOrder 1 (predictTests a) ≡ true
   pub curve : (a : CurveAsked) → inOrder 1 (curveTests a) ≡ true
@@ -85,6 +86,7 @@ all-in-order =
       search = λ a. refl;
       seeded = λ a. refl;
       tree = λ a. refl;
+      counted = λ a counts. refl;
       ordering = λ a. refl;
       predict = λ a. refl;
       curve = λ a. refl;

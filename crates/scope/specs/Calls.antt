@@ -9,7 +9,7 @@ use lib.Ieee.{Float}
 use lib.ListN.{length, take}
 use Rattle.scope.specs.Lists.{every}
 use Rattle.scope.specs.Asked.{Matrix, Shortest, Settings}
-use Rattle.scope.specs.Refusals.{Test, test, firstOf, Answer, unless, toldUnless, outside, mostRows, mostNeighbours, mostCurves, mostLength, no1, no1-rows, no2, no2-relative, no3, no3-alpha, no4, no5, no6, no7, no8, no8-split, no8-empty, no9}
+use Rattle.scope.specs.Refusals.{Test, test, firstOf, Answer, refused, given, unless, toldUnless, outside, mostRows, mostNeighbours, mostCurves, mostLength, no1, no1-rows, no2, no2-relative, no3, no3-alpha, no4, no5, no6, no7, no8, no8-split, no8-empty, no9}
 use Rattle.scope.specs.Rounding.{minimalLength}
 use Rattle.scope.specs.Candidates.{candidates, rangeSize, no10}
 use Rattle.scope.specs.Sums.{prefixSums}
@@ -234,17 +234,35 @@ pub record TreeTold : Type 0 where
   pub nodes : List Node
   pub cuts : List ℕ
 
-unfoldable pub treeCall : TreeAsked → TreeTold
-treeCall a =
-    let no = treeRefusal a in
+-- what follows where this number applies, or 0
+abbrev pub treeFollows : TreeAsked → ℕ → TreeTold
+treeFollows a number =
     let q = runOf (a .matrix) (a .settings) in
     record {
-      answer = unless no (countsOf q);
-      sums = toldUnless no (sumsOf (a .matrix));
-      records = toldUnless no (recordsOf q);
-      nodes = toldUnless no (nodes 0 (treeOf q));
-      cuts = toldUnless no (sheet (treeOf q));
+      answer = unless number (countsOf q);
+      sums = toldUnless number (sumsOf (a .matrix));
+      records = toldUnless number (recordsOf q);
+      nodes = toldUnless number (nodes 0 (treeOf q));
+      cuts = toldUnless number (sheet (treeOf q));
     }
+
+unfoldable pub treeCall : TreeAsked → TreeTold
+treeCall a = treeFollows a (treeRefusal a)
+
+-- ---- the tree for a host, which lends a slice for the three counts too
+abbrev pub countedTests : TreeAsked → ℕ → List Test
+countedTests a counts = treeTests a ++ (no7 3 counts ∷ [])
+
+unfoldable pub countedRefusal : TreeAsked → ℕ → ℕ
+countedRefusal a counts = firstOf (countedTests a counts)
+
+unfoldable pub countedCall : TreeAsked → ℕ → TreeTold
+countedCall a counts = treeFollows a (countedRefusal a counts)
+
+-- what that slice is told: how many nodes, records and cuts
+abbrev pub countsTold : Answer Counts → List ℕ
+countsTold (refused k) = []
+countsTold (given c) = c .nodes ∷ c .records ∷ c .cuts ∷ []
 
 -- ---- ordering: "Needs n*n u32 and n f64 of room; afterwards the n f64 hold the last row's distances."
 pub record OrderingAsked : Type 0 where

@@ -1,12 +1,13 @@
 -- How an answer reaches a host: a number, and what is stored through a lent place.
 use mathlib.Core.Path.{_≡_}
-use mathlib.Core.Bool.{Bool}
+use mathlib.Core.Bool.{Bool, cond}
 use mathlib.Core.List.{List}
 use Prim.Native.Nat.{ℕ}
+use lib.Dec.{ltb}
 use lib.Ieee.{Float}
 use lib.ListN.{length, getD, set}
 use Rattle.scope.specs.Refusals.{Answer, refused, given}
-use Rattle.scope.specs.Calls.{Split, Tested, Counts}
+use Rattle.scope.specs.Calls.{Split, Tested}
 use Rattle.entry_tree.specs.declared.Grown.{Grown}
 use Rattle.entry_tree.specs.declared.Grown.the-variants as grown
 
@@ -50,15 +51,17 @@ abbrev pub significantOr : Answer Tested → Bool → Bool
 significantOr (refused k) before = before
 significantOr (given t) before = t .significant
 
--- the tree's three counts in a lent slice, as far as it has room
+-- ---- the tree
+
+-- the nodes that are lent on beside so many counts: none where those are less than three
+unfoldable pub countedRoom : ℕ → ℕ → ℕ
+countedRoom nodes counts = cond (ltb counts 3) 0 nodes
+
+-- three counts in a lent slice, as far as it has room
 abbrev pub threeIn : ℕ → ℕ → ℕ → List ℕ → List ℕ
 threeIn nodes records cuts before = set (set (set before 0 nodes) 1 records) 2 cuts
 
-abbrev pub countsOr : Answer Counts → List ℕ → List ℕ
-countsOr (refused k) before = before
-countsOr (given c) before = threeIn (c .nodes) (c .records) (c .cuts) before
-
--- the same, of the enum that the entry point answers with
+-- the number, and the counts, of the enum that the entry point answers with
 abbrev pub grownNumber : Grown → ℕ
 grownNumber (grown.Refused k) = k
 grownNumber (grown.Counted c) = 0

@@ -2,9 +2,21 @@
 use entry_tree::Grown;
 use two_step_search::Guesses;
 ghost use mathlib.Core.Path.{_≡_};
+ghost use Prim.Native.Nat.{_≤_};
 ghost use lib.ListN.{getD, set};
 ghost use Rattle.two_step_search.specs.Guessed.{rowsOf};
-ghost use Rattle.told.specs.Told.{GrownTold};
+ghost use Rattle.told.specs.Told.{countedRoom, GrownTold};
+
+// How many of the nodes that a host lends are lent on: none where it lends less than three counts, so that a tree that nothing lower refuses is
+// refused by 7.
+pub fn counted_room(nodes: usize, counts: usize) -> usize
+    ensures { λ r. ⌜ (r ≡ countedRoom nodes counts) × (r ≤ nodes) ⌝ }
+{
+    if counts < 3 {
+        return 0;
+    }
+    nodes
+}
 
 // Stores a count at a place, where there is room for it.
 fn put(counts: &mut [usize], at: usize, count: usize)

@@ -49,7 +49,7 @@ told : (x : Matrix) (s : Settings) (r : Grown) (before after : Slices) → lengt
     → PointsLeft x s r (record { sums = before .sums; rows = before .rows; gains = before .gains; cuts = before .cuts }) (record { sums = after .sums; rows = after .rows; gains = after .gains; cuts = after .cuts })
 told x s r before after len said =
     let a = rw len at (said .answer) in
-    record { answer = a; sums = rw len at (said .sums); rows = rw len at (said .rows); gains = rw len at (said .gains); cuts = rw len at (said .cuts) }
+    record { answer = a; sums = rw len at (said .sums); rows = rw len at (said .rows); gains = rw len at (said .gains); cuts = rw len at (said .cuts); demand = said .demand }
 
 module _ {M : Type 1} (𝓤 : URA M) (H : Heap 𝓤) (A : Atoms 𝓤) (W : Given 𝓤 H A) (𝓣 : Tables 𝓤 H) (known-blank : Known 𝓤 H A W blanking (𝓣 .C #blank)) (known-tree : Known 𝓤 H A W answering (𝓣 .C #tree)) where
   walk : (xs : Args (splitting .ks)) → Walked 𝓤 H A W splitting (𝓣 .C) (𝓣 .Λ) code.function refl xs
