@@ -14,13 +14,12 @@ use lib.Ieee.{Float, lt}
 use Rattle.scope.specs.Lists.{_∈_}
 use Rattle.scope.specs.Floats.{lowest}
 use Rattle.scope.specs.Asked.{Shortest}
-use Rattle.scope.specs.Allowed.{Pair, Allowed, Ascending}
+use Rattle.scope.specs.Allowed.{Allowed, Ascending}
 use Rattle.scope.specs.Greatest.{FirstGreatest, kept, taken}
 use Rattle.scope.specs.Grid.{Record, blank, trial, trials}
 use Rattle.scope.specs.Tree.{Run, direct, seedRecords, inside, cut, Tree, nodeCount, mostNodes}
 use Rattle.scope.proofs.Order.{both, lt-irrefl, lt-numeric}
-use Rattle.scope.proofs.Candidates.{candidates-ascend}
-use Rattle.scope.proofs.Never.{never}
+use Rattle.scope.proofs.Candidates.{no-pair, candidates-ascend}
 use Rattle.demand.specs.Reached.{ruling, isCut}
 use Rattle.demand.specs.Offered.{own}
 use Rattle.demand.specs.Grows.{Grows, asLeaf, asNode}
@@ -45,11 +44,6 @@ module _ (s : Shortest) (least : 1 ≤ s .m) where
 not-below : (lo : ℕ) (xs : List ℕ) (y : ℕ) → Ascending lo xs → y ∈ xs → lo ≤ y
 not-below lo [] y a i = absurd (List·Memᴰ·not-nil i)
 not-below lo (x ∷ xs) y a i = ⊎-elim (λ e. omega (arith, a .0)) (λ j. omega (arith, a .0, not-below (x + 1) xs y (a .1) j)) (List·Memᴰ·cases-cons i)
-
--- no pair stands in an empty list
-no-pair : (ps : List ℕ) (a b : ℕ) → ps ≡ [] → Pair a b ps → ⊥
-no-pair ps a b e (Pair.here {ps = qs}) = never (cc)
-no-pair ps a b e (Pair.later {c = c} {d = d} {ps = qs} p) = never (cc)
 
 module _ (q : Run) (least : 1 ≤ q .shortest .m) (free : q .forbidden ≡ []) (g : Float)
     (all : (start stop x : ℕ) → start < x → x < stop → stop ≤ q .n → q .gain start stop x ≡ g)

@@ -7,6 +7,7 @@ pub mod Every
 pub mod Lowest
 pub mod Candidates
 pub mod Sums
+pub mod Guesses
 pub mod Greatest
 pub mod Stored
 pub mod Signs

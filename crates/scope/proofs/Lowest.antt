@@ -3,14 +3,15 @@ use mathlib.Core.Path.{_≡_, refl}
 use mathlib.Core.Logic.{⊎-elim}
 use mathlib.Core.Bool.{Bool, true, false, _&&_, false≢true}
 use mathlib.Core.List.{List, [], _∷_, List·Memᴰ, List·Memᴰ·head, List·Memᴰ·tail, List·Memᴰ·not-nil, List·Memᴰ·cases-cons}
-use Prim.Native.Nat.{ℕ, _≤_, _<_}
+use Prim.Native.Nat.{ℕ, zero, suc, _≤_, _<_}
 use native.Mathlib.Omega.{arith}
 use borrow.Author.Tests.{leb-true}
 use lib.Dec.{leb}
 use lib.Ieee.{Float}
-use Rattle.scope.specs.Refusals.{Test, test, firstOf}
+use Rattle.scope.specs.Refusals.{Test, test, firstOf, given, unless}
 use Rattle.scope.specs.Calls.{lengthTests, CandidatesAsked, candidatesTests, GainAsked, gainTests, SearchAsked, searchTests, SeededAsked, seededTests, TreeAsked, treeTests, OrderingAsked, orderingTests, PredictAsked, predictTests, CurveAsked, curveTests, PickAsked, pickTests, GuessesAsked, guessesTests, PermutationAsked, permutationTests}
 use Rattle.scope.specs.Program.{Deck, deckTests}
+use Rattle.scope.proofs.Never.{never}
 use Rattle.scope.proofs.Members.{first-of, second-of}
 
 -- the numbers never fall, from lo on
@@ -59,6 +60,16 @@ lowest-from (test false k ∷ ts) lo h p =
 
 pub lowest : (ts : List Test) → inOrder 1 ts ≡ true → Lowest ts (firstOf ts)
 lowest ts h = lowest-from ts 1 h (omega arith)
+
+-- where no number is given, no test holds
+pub not-held : (ts : List Test) → inOrder 1 ts ≡ true → firstOf ts ≡ 0 → (b : Bool) (k : ℕ) → List·Memᴰ (test b k) ts → b ≡ false
+not-held ts h z true k i = absurd (lowest ts h .clean z k i)
+not-held ts h z false k i = refl
+
+-- a call gives its value where the number is 0, and only there
+pub given-is : {A : Type 0} (k : ℕ) (v l : A) → unless k v ≡ given l → (k ≡ 0) × (v ≡ l)
+given-is zero v l e = (refl, cc)
+given-is (suc k) v l e = never (cc)
 
 -- ---- every call's tests are in number order, whatever its input is
 pub record InOrder : Type 0 where
