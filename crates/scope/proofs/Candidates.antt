@@ -5,11 +5,11 @@ use mathlib.Core.Bool.{Bool, true, false, cond, not, _&&_, _||_, false≢true, t
 use mathlib.Core.List.{List, [], _∷_, _++_, List·Memᴰ, List·Memᴰ·head, List·Memᴰ·tail}
 use Prim.Native.Nat.{ℕ, zero, suc, _+_, _-_, _*_, _≤_, _<_}
 use native.Mathlib.Omega.{arith}
-use borrow.Author.Tests.{ltb-true, leb-true, lt-ltb, le-leb, leb-false}
+use borrow.Author.Tests.{ltb-true, ltb-false, leb-true, lt-ltb, le-leb, leb-false}
 use lib.Dec.{ltb, leb}
 use Rattle.scope.specs.Lists.{upward, keep, select, isEmpty}
 use Rattle.scope.specs.Asked.{Shortest}
-use Rattle.scope.specs.Refusals.{test, firstOf, no9}
+use Rattle.scope.specs.Refusals.{test, firstOf, outside, no9}
 use Rattle.scope.specs.Candidates.{isBarred, rangeSize, candidates, allBarred, no10}
 use Rattle.scope.specs.Allowed.{Pair, here, later, Allowed, Ascending}
 use Rattle.scope.proofs.Never.{never}
@@ -19,6 +19,11 @@ use Rattle.scope.proofs.Lists.{select-are, select-all, upward-are}
 pub or-false : (a b : Bool) → a || b ≡ false → (a ≡ false) × (b ≡ false)
 or-false true b h = absurd (true≢false h)
 or-false false b h = (refl, h)
+
+-- a size that is not refused is one of 1 to most
+pub not-outside : (most v : ℕ) → outside most v ≡ false → (1 ≤ v) × (v ≤ most)
+unfolding outside
+not-outside most v h = let (a, b) = or-false (ltb v 1) (ltb most v) h in (ltb-false v 1 a, ltb-false most v b)
 
 pub free-of : (ps : List ℕ) (x : ℕ) → isBarred ps x ≡ false → (a b : ℕ) → Pair a b ps → a < x → x ≤ b → ⊥
 unfolding isBarred

@@ -6,20 +6,20 @@ use mathlib.Core.List.{List, [], _∷_, List·Memᴰ·head, List·Memᴰ·tail, 
 use mathlib.Core.Option.{Option, none, some}
 use Prim.Native.Nat.{ℕ, suc, _+_, _-_, _*_, _/_, _≤_, _<_}
 use native.Mathlib.Omega.{arith}
-use borrow.Author.Tests.{ltb-true, ltb-false, lt-ltb, leb-false}
+use borrow.Author.Tests.{ltb-true, lt-ltb, leb-false}
 use lib.Dec.{ltb}
 use lib.ListN.{length, getD}
 use Rattle.scope.specs.Lists.{_∈_, keep, select, isEmpty}
 use Rattle.scope.specs.Asked.{Shortest}
-use Rattle.scope.specs.Refusals.{test, firstOf, given, mostLength, outside}
+use Rattle.scope.specs.Refusals.{test, firstOf, given, mostLength}
 use Rattle.scope.specs.Candidates.{rangeSize, candidates, allBarred}
 use Rattle.scope.specs.Allowed.{Allowed, Ascending, AllowedGuesses}
 use Rattle.scope.specs.Curves.{isMember, quarters, quartersOf, aboveLast, guesses}
 use Rattle.scope.specs.Calls.{listed, GuessesAsked, guessesTests, guessesAnswer}
 use Rattle.scope.proofs.Lists.{select-are, select-all}
 use Rattle.scope.proofs.Members.{at-in, member-in, in-member}
-use Rattle.scope.proofs.Lowest.{not-held, given-is, all-in-order}
-use Rattle.scope.proofs.Candidates.{or-false, no-pair, candidates-are, select-ascends}
+use Rattle.scope.proofs.Lowest.{holds, not-held, given-is, all-in-order}
+use Rattle.scope.proofs.Candidates.{not-outside, no-pair, candidates-are, select-ascends}
 
 -- ---- without a list: a quarter, a half and three quarters of the way, of which the half is always allowed
 some-in : {A : Type 0} (x : A) (l : List A) → x ∈ l → 1 ≤ length l
@@ -119,24 +119,20 @@ some-long [] e = absurd (true≢false e)
 some-long (x ∷ l) e = omega arith
 
 module _ (a : GuessesAsked) (passed : firstOf (guessesTests a) ≡ 0) where
-  held : (b : Bool) (k : ℕ) → test b k ∈ guessesTests a → b ≡ false
+  held : (i : ℕ) → i < 6 → holds (getD (guessesTests a) i (test false 0)) ≡ false
   held = not-held (guessesTests a) (all-in-order .guesses a) passed
 
   least : 1 ≤ a .shortest .m
-  unfolding outside
-  least = ltb-false (a .shortest .m) 1 (or-false _ _ (held (outside mostLength (a .shortest .m)) 2 (List·Memᴰ·tail (List·Memᴰ·head refl))) .0)
+  least = not-outside mostLength (a .shortest .m) (held 1 (omega arith)) .0
 
   long : 2 * a .shortest .m < a .stop - a .start
-  long = leb-false (a .stop - a .start) (2 * a .shortest .m) (held _ 9 (List·Memᴰ·tail (List·Memᴰ·tail (List·Memᴰ·tail (List·Memᴰ·tail (List·Memᴰ·head refl))))))
-
-  barred-not : allBarred (a .shortest) (listed (a .forbidden)) (a .start) (a .stop) ≡ false
-  barred-not = held _ 10 (List·Memᴰ·tail (List·Memᴰ·tail (List·Memᴰ·tail (List·Memᴰ·tail (List·Memᴰ·tail (List·Memᴰ·head refl))))))
+  long = leb-false (a .stop - a .start) (2 * a .shortest .m) (held 4 (omega arith))
 
   any : 0 < length (candidates (a .shortest) (listed (a .forbidden)) (a .start) (a .stop))
   unfolding allBarred rangeSize
   any =
       let some-rows : 0 < a .stop - a .start - 2 * a .shortest .m = omega (arith, long) in
-      some-long (candidates (a .shortest) (listed (a .forbidden)) (a .start) (a .stop)) (rw (lt-ltb 0 (a .stop - a .start - 2 * a .shortest .m) some-rows) at barred-not)
+      some-long (candidates (a .shortest) (listed (a .forbidden)) (a .start) (a .stop)) (rw (lt-ltb 0 (a .stop - a .start - 2 * a .shortest .m) some-rows) at (held 5 (omega arith)))
 
 pub guesses-allowed : (a : GuessesAsked) (l : List ℕ) → guessesAnswer a ≡ given l → AllowedGuesses (a .shortest) (listed (a .forbidden)) (a .start) (a .stop) l
 unfolding guessesAnswer

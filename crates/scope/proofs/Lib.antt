@@ -10,6 +10,9 @@ pub mod Sums
 pub mod Guesses
 pub mod Greatest
 pub mod Stored
+pub mod Chosen
 pub mod Signs
+pub mod Finite
 pub mod Ordering
 pub mod Permuted
+pub mod Numbers
