@@ -1,4 +1,4 @@
--- The levels of a tree: growth calls itself once for each node, so this is how deep its calls go. Assumes nothing.
+-- The levels of a tree. Growth makes one call for each node, inside the call for the node above it: so this is how deep its calls go. Assumes nothing.
 use Prim.Native.Nat.{ℕ, suc, _-_, _/_, max}
 use Rattle.scope.specs.Asked.{Shortest}
 use Rattle.scope.specs.Tree.{Tree, leaf, node}

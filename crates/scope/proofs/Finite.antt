@@ -30,12 +30,12 @@ in-units l (negsuc k) h = (l - suc k, one-mul (2 ^ l) ∙ go (decLt l (suc k)))
     go (no more) = let fits : suc k ≤ l = omega arith in rw (← pow-add 2 (l - suc k) (suc k), sub-add-cancel fits)
 
 -- what the format holds of m * 2 ^ e: the digits, the lowest and the highest exponent
-record Held (f : Format) (m : ℕ) (e : ℤ) : Type 0 where
-  digits : m < 2 ^ prec f
-  lowest : down e ≤ 2 ^ low f
-  highest : m * up e < 2 ^ suc (emax f) * down e
+pub record Held (f : Format) (m : ℕ) (e : ℤ) : Type 0 where
+  pub digits : m < 2 ^ prec f
+  pub lowest : down e ≤ 2 ^ low f
+  pub highest : m * up e < 2 ^ suc (emax f) * down e
 
-held : (f : Format) (s : Bool) (m : ℕ) (e : ℤ) → fits f (fin s m e) ≡ true → Held f m e
+pub held : (f : Format) (s : Bool) (m : ℕ) (e : ℤ) → fits f (fin s m e) ≡ true → Held f m e
 unfolding fits
 held f s zero e h =
     record {
