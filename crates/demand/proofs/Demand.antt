@@ -16,6 +16,7 @@ use Rattle.scope.specs.Tree.{Run, treeOf, recordsOf, nodeCount, mostNodes}
 use Rattle.scope.specs.Asked.{Matrix, Settings}
 use Rattle.scope.specs.Calls.{runOf}
 use Rattle.demand.specs.AllZero.{AllZero}
+use Rattle.demand.specs.Levels.{levels, mostLevels}
 use Rattle.demand.specs.Demand.{Demand}
 use Rattle.demand.proofs.Choice.{choice-first, choice-none}
 use Rattle.demand.proofs.Cut.{cut-when, greatest-some, never-cut, cut-by}
@@ -24,18 +25,19 @@ use Rattle.demand.proofs.Sheet.{on-cuts, on-sheet, sheet-ascends, sheet
 use Rattle.demand.proofs.Nodes.{on-nodes, nodes-once}
 use Rattle.demand.proofs.Told.{nodes-told}
 use Rattle.demand.proofs.Made.{grown-grows, grown-made}
-use Rattle.demand.proofs.Room.{count-nodes, nodes-few, cuts-few, records-few, length-seeded}
+use Rattle.demand.proofs.Room.{count-nodes, nodes-few, levels-few, cuts-few, records-few, length-seeded}
 use Rattle.demand.proofs.Level.{level-most}
 use Rattle.demand.proofs.Zero.{zero-gain}
 
--- where all gains are one that exceeds the threshold, and nothing is forbidden, the bound on nodes is reached, whatever the seeds
+-- where all gains are one that exceeds the threshold, and nothing is forbidden, the bounds on nodes and on levels are reached, whatever the seeds
 pub level-gains : (q : Run) → 1 ≤ q .shortest .m → 1 ≤ q .n → q .forbidden ≡ [] → (g : Float)
     → ((start stop x : ℕ) → start < x → x < stop → stop ≤ q .n → q .gain start stop x ≡ g)
     → lt (q .threshold) g ≡ true
-    → nodeCount (treeOf q) ≡ mostNodes (q .n) (q .shortest)
+    → (nodeCount (treeOf q) ≡ mostNodes (q .n) (q .shortest)) × (levels (treeOf q) ≡ mostLevels (q .n) (q .shortest))
 level-gains q m n free g all over = level-most q m free g all over (treeOf q) (grown-grows q m n) n
 
-zero-readings : (q : Run) → 1 ≤ q .shortest .m → 1 ≤ q .n → (cells : List Float) (d : ℕ) → AllZero q cells d → nodeCount (treeOf q) ≡ mostNodes (q .n) (q .shortest)
+zero-readings : (q : Run) → 1 ≤ q .shortest .m → 1 ≤ q .n → (cells : List Float) (d : ℕ) → AllZero q cells d
+    → (nodeCount (treeOf q) ≡ mostNodes (q .n) (q .shortest)) × (levels (treeOf q) ≡ mostLevels (q .n) (q .shortest))
 zero-readings q m n cells d z =
     level-gains q m n (z .none-forbidden) +0
     (λ start stop x low high fits. rw (z .gain-is) (zero-gain cells (q .n) d (z .filled) (z .zeros) (z .rows) start stop x low high fits))
@@ -67,7 +69,9 @@ demand q m n =
       told = nodes-told q t whole;
       counted = λ p. count-nodes p t;
       few-nodes = nodes-few q m t whole;
-      most-nodes = zero-readings q m n;
+      most-nodes = λ cells d z. zero-readings q m n cells d z .0;
+      few-levels = levels-few q m t whole;
+      most-levels = λ cells d z. zero-readings q m n cells d z .1;
       few-cuts = cuts-few q m t whole;
       few-records = rw made (omega (arith, records-few q t, nodes-few q m t whole));
     }

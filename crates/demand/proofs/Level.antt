@@ -1,11 +1,11 @@
 -- Where all gains are one and exceed the threshold, and nothing is forbidden, every segment longer than 2 m is cut at its first allowed row,
--- and the tree has as many nodes as any. Assumes nothing.
+-- and the tree has as many nodes and levels as any. Assumes nothing.
 use mathlib.Core.Path.{_≡_, refl, sym, _∙_, ap}
 use mathlib.Core.Logic.{⊎-elim}
 use mathlib.Core.Bool.{Bool, true, false}
 use mathlib.Core.List.{List, [], _∷_, map, List·Memᴰ·head, List·Memᴰ·not-nil, List·Memᴰ·cases-cons, Memᴰ·of-map}
 use mathlib.Core.Option.{some}
-use Prim.Native.Nat.{ℕ, _+_, _-_, _*_, _/_, _≤_, _<_}
+use Prim.Native.Nat.{ℕ, suc, _+_, _-_, _*_, _/_, _≤_, _<_}
 use native.Mathlib.Nat.{le-div-iff-mul-le, div-lt-iff-lt-mul, div-eq-sub-div, sub-zero}
 use native.Mathlib.Omega.{arith}
 use borrow.Author.Tests.{leb-true, leb-false}
@@ -14,16 +14,16 @@ use lib.Ieee.{Float, lt}
 use Rattle.scope.specs.Lists.{_∈_}
 use Rattle.scope.specs.Floats.{lowest}
 use Rattle.scope.specs.Asked.{Shortest}
-use Rattle.scope.specs.Allowed.{Pair, Allowed, Ascending}
+use Rattle.scope.specs.Allowed.{Allowed, Ascending}
 use Rattle.scope.specs.Greatest.{FirstGreatest, kept, taken}
 use Rattle.scope.specs.Grid.{Record, blank, trial, trials}
 use Rattle.scope.specs.Tree.{Run, direct, seedRecords, inside, cut, Tree, nodeCount, mostNodes}
 use Rattle.scope.proofs.Order.{both, lt-irrefl, lt-numeric}
-use Rattle.scope.proofs.Candidates.{candidates-ascend}
-use Rattle.scope.proofs.Never.{never}
+use Rattle.scope.proofs.Candidates.{no-pair, candidates-ascend}
 use Rattle.demand.specs.Reached.{ruling, isCut}
 use Rattle.demand.specs.Offered.{own}
 use Rattle.demand.specs.Grows.{Grows, asLeaf, asNode}
+use Rattle.demand.specs.Levels.{levels, mostLevels}
 use Rattle.demand.proofs.Records.{not-above-lowest, rows, tries, allowed, direct-above, direct-first}
 use Rattle.demand.proofs.Choice.{choice-of}
 use Rattle.demand.proofs.Cut.{offered-cut, cut-choice, cut-by, cut-far}
@@ -44,11 +44,6 @@ module _ (s : Shortest) (least : 1 ≤ s .m) where
 not-below : (lo : ℕ) (xs : List ℕ) (y : ℕ) → Ascending lo xs → y ∈ xs → lo ≤ y
 not-below lo [] y a i = absurd (List·Memᴰ·not-nil i)
 not-below lo (x ∷ xs) y a i = ⊎-elim (λ e. omega (arith, a .0)) (λ j. omega (arith, a .0, not-below (x + 1) xs y (a .1) j)) (List·Memᴰ·cases-cons i)
-
--- no pair stands in an empty list
-no-pair : (ps : List ℕ) (a b : ℕ) → ps ≡ [] → Pair a b ps → ⊥
-no-pair ps a b e (Pair.here {ps = qs}) = never (cc)
-no-pair ps a b e (Pair.later {c = c} {d = d} {ps = qs} p) = never (cc)
 
 module _ (q : Run) (least : 1 ≤ q .shortest .m) (free : q .forbidden ≡ []) (g : Float)
     (all : (start stop x : ℕ) → start < x → x < stop → stop ≤ q .n → q .gain start stop x ≡ g)
@@ -103,6 +98,15 @@ module _ (q : Run) (least : 1 ≤ q .shortest .m) (free : q .forbidden ≡ []) (
         go d p e (taken earlier later w up s n) =
             both (rw e at up) (rw (row-level (start + q .shortest .m) first-allowed) at (direct-above q start stop d p (start + q .shortest .m) first-allowed))
 
+  -- the left part of a cut has m rows, and is a leaf
+  left-leaf : (start stop : ℕ) (r : Record) (l : Tree) → ruling q start stop ≡ cut r → Grows q start (r .split) l → stop ≤ q .n → nodeCount l ≡ 1
+  unfolding nodeCount
+  left-leaf start stop r l h (asLeaf x) fits = refl
+  left-leaf start stop r l h (asNode {r = z} x y w) fits =
+      let far = cut-far q start stop r h in
+      let at = cut-first start stop (omega arith) fits r h in
+      absurd (omega (arith, cut-far q start (r .split) z x))
+
   level-nodes : (start stop : ℕ) (t : Tree) → Grows q start stop t → start < stop → stop ≤ q .n → nodeCount t ≡ mostNodes (stop - start) (q .shortest)
   unfolding nodeCount
   level-nodes start stop t (asLeaf {o = o} h) filled fits = go (leb (stop - start) (2 * q .shortest .m)) refl
@@ -113,10 +117,20 @@ module _ (q : Run) (least : 1 ≤ q .shortest .m) (free : q .forbidden ≡ []) (
   level-nodes start stop t (asNode {r = r} {s = l} {t = u} h x y) filled fits =
       let far = cut-far q start stop r h in
       let at = cut-first start stop (omega arith) fits r h in
-      let L = level-nodes start (r .split) l x (omega arith) (omega arith) ∙ short (q .shortest) least (r .split - start) (omega arith) (omega arith) in
+      let L = left-leaf start stop r l h x fits in
       let R = level-nodes (r .split) stop u y (omega arith) fits in
       let rest : stop - r .split ≡ stop - start - q .shortest .m = omega arith in
       rw (L, R, longer (q .shortest) least (stop - start) (omega arith), rest) (omega arith)
 
-  pub level-most : (T : Tree) → Grows q 0 (q .n) T → 1 ≤ q .n → nodeCount T ≡ mostNodes (q .n) (q .shortest)
-  level-most T whole filled = rw sub-zero at (level-nodes 0 (q .n) T whole filled (omega arith))
+  -- each cut leaves a leaf on its left, so that it adds one level and two nodes
+  level-levels : (start stop : ℕ) (t : Tree) → Grows q start stop t → start < stop → stop ≤ q .n → 2 * levels t ≡ suc (nodeCount t)
+  unfolding levels nodeCount
+  level-levels start stop t (asLeaf h) filled fits = refl
+  level-levels start stop t (asNode {r = r} {s = l} {t = u} h x y) filled fits =
+      let far = cut-far q start stop r h in
+      omega (arith, left-leaf start stop r l h x fits, level-levels start (r .split) l x (omega arith) (omega arith), level-levels (r .split) stop u y (omega arith) fits)
+
+  pub level-most : (T : Tree) → Grows q 0 (q .n) T → 1 ≤ q .n → (nodeCount T ≡ mostNodes (q .n) (q .shortest)) × (levels T ≡ mostLevels (q .n) (q .shortest))
+  level-most T whole filled =
+      let nodes : nodeCount T ≡ mostNodes (q .n) (q .shortest) = rw sub-zero at (level-nodes 0 (q .n) T whole filled (omega arith)) in
+      (nodes, omega (arith, level-levels 0 (q .n) T whole filled (omega arith)))

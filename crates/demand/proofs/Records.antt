@@ -16,8 +16,7 @@ use Rattle.scope.specs.Layers.{Segment, one, stored}
 use Rattle.scope.specs.Tree.{Run, direct, seedRecords}
 use Rattle.scope.proofs.Order.{both}
 use Rattle.scope.proofs.Candidates.{candidates-are}
-use Rattle.scope.proofs.Greatest.{best-is-first, first-one, first-greatest, first-numeric}
-use Rattle.scope.proofs.Never.{never}
+use Rattle.scope.proofs.Greatest.{search-first, first-one, first-greatest, first-numeric}
 
 pub not-above-lowest : (t : Float) → lt t lowest ≡ false
 unfolding lt
@@ -58,12 +57,7 @@ module _ (q : Run) (start stop : ℕ) where
 
   -- the direct record is the first of the greatest trials, from the blank record on
   pub direct-first : (r : Record) → direct q start stop ≡ some r → FirstGreatest (blank start stop) tries r
-  unfolding search
-  direct-first r h = go tries h (best-is-first (blank start stop) tries)
-    where
-      go : (l : List Record) → ofSome (blank start stop) l ≡ some r → FirstGreatest (blank start stop) l (best (blank start stop) l) → FirstGreatest (blank start stop) l r
-      go [] h f = never (cc)
-      go (x ∷ l) h f = let w : best (blank start stop) (x ∷ l) ≡ r = cc in rw w at f
+  direct-first r h = search-first (q .gain) (q .shortest) (q .forbidden) start stop r h
 
   module _ (r : Record) (is : direct q start stop ≡ some r) where
     pub direct-found : Found q start stop r

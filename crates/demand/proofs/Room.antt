@@ -1,4 +1,4 @@
--- How many nodes, cuts and records there are at most. Assumes nothing.
+-- How many nodes, levels, cuts and records there are at most. Assumes nothing.
 use mathlib.Core.Path.{_≡_, refl, _∙_, ap}
 use mathlib.Core.List.{List, [], _∷_, _++_}
 use mathlib.Core.Option.{Option}
@@ -13,6 +13,7 @@ use Rattle.scope.specs.Layers.{Segment, layerCount, layerSegments, seeded, laye
 use Rattle.scope.specs.Tree.{Run, direct, seedRecords, Tree, leaf, node, nodes, nodeCount, cuts, sheet, mostNodes}
 use Rattle.scope.proofs.Stored.{one-few}
 use Rattle.demand.specs.Grows.{Grows, directs}
+use Rattle.demand.specs.Levels.{levels, mostLevels}
 use Rattle.demand.proofs.Sheet.{sheet-node, spaced-least, sheet-spaced}
 
 -- two nodes for each cut, and one
@@ -26,6 +27,12 @@ unfolding nodeCount nodes
 count-nodes p (leaf start stop o) = refl
 count-nodes p (node start stop r s t) = ap suc (omega (arith, length-append (nodes (p + 1) s) (nodes (p + 1 + nodeCount s) t), count-nodes (p + 1) s, count-nodes (p + 1 + nodeCount s) t))
 
+-- at least two nodes more for each level after the first
+count-levels : (t : Tree) → 2 * levels t ≤ suc (nodeCount t)
+unfolding levels nodeCount
+count-levels (leaf start stop o) = omega arith
+count-levels (node start stop r s t) = omega (arith, count-levels s, count-levels t, count-sheet s, count-sheet t)
+
 module _ (q : Run) (least : 1 ≤ q .shortest .m) (T : Tree) (whole : Grows q 0 (q .n) T) where
   pub nodes-few : nodeCount T ≤ mostNodes (q .n) (q .shortest)
   nodes-few = go (length (sheet T)) refl
@@ -37,6 +44,9 @@ module _ (q : Run) (least : 1 ≤ q .shortest .m) (T : Tree) (whole : Grows q 0 
           let mul : length (sheet T) * q .shortest .m ≡ suc k * q .shortest .m = ap (λ (x : ℕ). x * q .shortest .m) h in
           let up : suc (suc k) * q .shortest .m ≤ q .n - 1 = omega arith in
           omega (arith, count-sheet T, le-div-iff-mul-le least .1 up)
+
+  pub levels-few : levels T ≤ mostLevels (q .n) (q .shortest)
+  levels-few = omega (arith, nodes-few, count-levels T)
 
   pub cuts-few : length (sheet T) ≤ (mostNodes (q .n) (q .shortest) - 1) / 2
   cuts-few = omega (arith, nodes-few, count-sheet T)

@@ -20,6 +20,7 @@ use Rattle.demand.specs.Offered.{Offered, Greatest}
 use Rattle.demand.specs.Spaced.{Spaced}
 use Rattle.demand.specs.Told.{segmentOf, Told}
 use Rattle.demand.specs.AllZero.{AllZero}
+use Rattle.demand.specs.Levels.{levels, mostLevels}
 
 pub record Demand (q : Run) : Type 0 where
   -- ---- the sheet
@@ -68,6 +69,10 @@ pub record Demand (q : Run) : Type 0 where
   pub few-nodes : nodeCount (treeOf q) ≤ mostNodes (q .n) (q .shortest)
   -- all-zero readings reach that bound, at a threshold below 0 and with nothing forbidden
   pub most-nodes : (cells : List Float) (d : ℕ) → AllZero q cells d → nodeCount (treeOf q) ≡ mostNodes (q .n) (q .shortest)
+  -- at most max(1, floor((n-1)/m)) levels, which is how deep growth calls itself
+  pub few-levels : levels (treeOf q) ≤ mostLevels (q .n) (q .shortest)
+  -- all-zero readings reach that bound too
+  pub most-levels : (cells : List Float) (d : ℕ) → AllZero q cells d → levels (treeOf q) ≡ mostLevels (q .n) (q .shortest)
   -- at most (B-1)/2 cuts
   pub few-cuts : length (sheet (treeOf q)) ≤ (mostNodes (q .n) (q .shortest) - 1) / 2
   -- at most a record for each seed, and B more

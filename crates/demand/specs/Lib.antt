@@ -5,4 +5,5 @@ pub mod Spaced
 pub mod Grows
 pub mod Told
 pub mod AllZero
+pub mod Levels
 pub mod Demand

@@ -1,22 +1,23 @@
 -- The least length from a relative one: r * n is in range, and its ceiling from 1 to 2048. Assumes nothing.
 use mathlib.Core.Path.{_≡_, refl, _∙_}
-use mathlib.Core.Bool.{true, false, _&&_, false≢true}
-use Prim.Native.Nat.{ℕ, zero, suc, _*_, _%_, _^_, _≤_, _<_}
+use mathlib.Core.Bool.{true, false, false≢true}
+use Prim.Native.Nat.{ℕ, _*_, _^_, _≤_, _<_}
 use native.Mathlib.Nat.{le-refl, le-trans, zero-lt-suc, mul-pos, mul-le-mul, mul-le-mul-right, le-mul-of-pos-right}
 use native.Mathlib.Omega.{arith}
 use borrow.Author.Tests.{ltb-true, lt-ltb}
-use lib.Dec.{T, ltb, leb, eqb, lit<, leb→le}
-use lib.IntN.{ℤ, pos}
+use lib.Dec.{T, lit<}
+use lib.IntN.{pos}
 use lib.Pow.{pow-pos, pow-lt}
-use lib.Ieee.{Float, nan, inf, fin, Format, binary64, prec, emax, low, up, down, round, mul, lt, le, fits}
+use lib.Ieee.{Float, nan, inf, fin, Format, binary64, low, up, down, round, mul, lt, le, fits}
 use lib.Ieee.Bits.{is-true}
-use lib.Ieee.Fits.{down-pos, up-pos, and-l, and-r}
+use lib.Ieee.Fits.{down-pos, up-pos}
 use lib.Ieee.Order.{round-mono}
 use lib.Ieee.Positive.{first-pos}
 use Rattle.scope.specs.Floats.{_⊗_, whole, +0, half}
 use Rattle.scope.specs.Rounding.{minimalLength}
 use Rattle.scope.specs.Greatest.{numeric}
 use Rattle.scope.proofs.Order.{lt-co}
+use Rattle.scope.proofs.Finite.{held}
 use Rattle.rounding.specs.Range.{inRange}
 use Rattle.rounding.proofs.Order.{at-most-not}
 use Rattle.rounding.proofs.Values.{Valued, valued, part-value, lt-values, whole-value, numeric-valued, prec-pos, products}
@@ -48,14 +49,6 @@ round-above f a b B h =
     let above : lt +0 l ≡ true = lt-values {a = 0} (zero-lt-suc 0) (pow-pos (low f)) (valued 0 (pos 0) refl) vl ∙ lt-ltb (0 * 2 ^ low f) (1 * 1) (omega arith) in
     lt-co +0 x l (numeric-from vl x s) above (at-most-not l x (numeric-valued vl) (numeric-from vl x s) (is-true _ s))
 
-fits-least : (f : Format) (m : ℕ) (e : ℤ) → T (fits f (fin false m e)) → 0 < m → down e ≤ 2 ^ low f
-unfolding fits
-fits-least f zero e F M = absurd (omega arith)
-fits-least f (suc m) e F M =
-    let digits = eqb (suc m % 2) 1 && ltb (suc m) (2 ^ prec f) in
-    let parts = leb (down e) (2 ^ low f) in
-    leb→le (down e) (2 ^ low f) (and-r digits parts (and-l (digits && parts) (ltb (suc m * up e) (2 ^ suc (emax f) * down e)) F))
-
 no-smaller : (x y p q w : ℕ) → 0 < x → p ≤ w → q ≤ y → p * q ≤ x * y * w
 no-smaller x y p q w X h i = le-trans (mul-le-mul h i) (simp products (simp products at (le-mul-of-pos-right (w * y) X)))
 
@@ -65,7 +58,7 @@ unfolding mul lt
 mul-above f (within m e p q) F P (valued i g v) N =
     let M = first-pos m (up e) (omega (arith, ltb-true)) in
     let N' : down g ≤ i * up g = omega (arith, mul-le-mul-right (down g) N) in
-    round-above f (m * up e * (i * up g)) (down e * down g) (mul-pos (down-pos e) (down-pos g)) (no-smaller (m * up e) (i * up g) (down e) (down g) (2 ^ low f) (mul-pos M (up-pos e)) (fits-least f m e F M) N')
+    round-above f (m * up e * (i * up g)) (down e * down g) (mul-pos (down-pos e) (down-pos g)) (no-smaller (m * up e) (i * up g) (down e) (down g) (2 ^ low f) (mul-pos M (up-pos e)) (held f false m e (is-true _ F) .lowest) N')
 
 -- ---- "the ceiling of the f64 product r*n"
 module _ (r : Float) (n : ℕ) (above : lt +0 r ≡ true) (below : lt r half ≡ true) (rows : n ≤ 4096) where

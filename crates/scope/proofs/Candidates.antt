@@ -5,19 +5,25 @@ use mathlib.Core.Bool.{Bool, true, false, cond, not, _&&_, _||_, false≢true, t
 use mathlib.Core.List.{List, [], _∷_, _++_, List·Memᴰ, List·Memᴰ·head, List·Memᴰ·tail}
 use Prim.Native.Nat.{ℕ, zero, suc, _+_, _-_, _*_, _≤_, _<_}
 use native.Mathlib.Omega.{arith}
-use borrow.Author.Tests.{ltb-true, leb-true, lt-ltb, le-leb, leb-false}
+use borrow.Author.Tests.{ltb-true, ltb-false, leb-true, lt-ltb, le-leb, leb-false}
 use lib.Dec.{ltb, leb}
 use Rattle.scope.specs.Lists.{upward, keep, select, isEmpty}
 use Rattle.scope.specs.Asked.{Shortest}
-use Rattle.scope.specs.Refusals.{test, firstOf, no9}
+use Rattle.scope.specs.Refusals.{test, firstOf, outside, no9}
 use Rattle.scope.specs.Candidates.{isBarred, rangeSize, candidates, allBarred, no10}
 use Rattle.scope.specs.Allowed.{Pair, here, later, Allowed, Ascending}
-use Rattle.scope.proofs.Lists.{select-append, select-are, select-all, upward-are}
+use Rattle.scope.proofs.Never.{never}
+use Rattle.scope.proofs.Lists.{select-are, select-all, upward-are}
 
 -- ---- barred, by a pair
-or-false : (a b : Bool) → a || b ≡ false → (a ≡ false) × (b ≡ false)
+pub or-false : (a b : Bool) → a || b ≡ false → (a ≡ false) × (b ≡ false)
 or-false true b h = absurd (true≢false h)
 or-false false b h = (refl, h)
+
+-- a size that is not refused is one of 1 to most
+pub not-outside : (most v : ℕ) → outside most v ≡ false → (1 ≤ v) × (v ≤ most)
+unfolding outside
+not-outside most v h = let (a, b) = or-false (ltb v 1) (ltb most v) h in (ltb-false v 1 a, ltb-false most v b)
 
 pub free-of : (ps : List ℕ) (x : ℕ) → isBarred ps x ≡ false → (a b : ℕ) → Pair a b ps → a < x → x ≤ b → ⊥
 unfolding isBarred
@@ -39,6 +45,11 @@ not-true : (b : Bool) → not b ≡ true → b ≡ false
 not-true true h = absurd (false≢true h)
 not-true false h = refl
 
+-- no pair stands in an empty list
+pub no-pair : (ps : List ℕ) (a b : ℕ) → ps ≡ [] → Pair a b ps → ⊥
+no-pair ps a b e (here {ps = qs}) = never (cc)
+no-pair ps a b e (later {c = c} {d = d} {ps = qs} p) = never (cc)
+
 -- ---- the list holds exactly the allowed rows
 pub candidates-are : (s : Shortest) (forbidden : List ℕ) (start stop x : ℕ) → List·Memᴰ x (candidates s forbidden start stop) ↔ Allowed s forbidden start stop x
 unfolding candidates rangeSize
@@ -56,18 +67,28 @@ ascending-end : (lo : ℕ) (xs : List ℕ) (y : ℕ) → lo ≤ y → ((x : ℕ)
 ascending-end lo [] y l h a = (l, tt)
 ascending-end lo (x ∷ xs) y l h a = (a .0, ascending-end (x + 1) xs y (omega (arith, h x (List·Memᴰ·head refl))) (λ z i. h z (List·Memᴰ·tail i)) (a .1))
 
-ascending-select : (p : ℕ → Bool) (lo k : ℕ) → Ascending lo (select p (upward lo k))
-unfolding upward select
-ascending-select p lo zero = tt
-ascending-select p lo (suc k) = rw (select-append p (upward lo k) ((lo + k) ∷ [])) (go (p (lo + k)) (ascending-select p lo k))
+upward-ascends : (lo k : ℕ) → Ascending lo (upward lo k)
+unfolding upward
+upward-ascends lo zero = tt
+upward-ascends lo (suc k) = ascending-end lo (upward lo k) (lo + k) (omega arith) (λ x i. upward-are lo k x .0 i .1) (upward-ascends lo k)
+
+ascending-from : (lo hi : ℕ) (xs : List ℕ) → lo ≤ hi → Ascending hi xs → Ascending lo xs
+ascending-from lo hi [] h a = tt
+ascending-from lo hi (x ∷ xs) h a = (omega (arith, a .0), a .1)
+
+pub select-ascends : (p : ℕ → Bool) (lo : ℕ) (xs : List ℕ) → Ascending lo xs → Ascending lo (select p xs)
+unfolding select
+select-ascends p lo [] a = tt
+select-ascends p lo (x ∷ xs) a = go (p x) (select-ascends p (x + 1) xs (a .1))
   where
-    go : (b : Bool) → Ascending lo (select p (upward lo k)) → Ascending lo (select p (upward lo k) ++ keep b (lo + k) [])
-    go true a = ascending-end lo (select p (upward lo k)) (lo + k) (omega arith) (λ x i. upward-are lo k x .0 (select-are p (upward lo k) x i .0) .1) a
-    go false a = rw mathlib.Core.List.append-nil a
+    go : (b : Bool) → Ascending (x + 1) (select p xs) → Ascending lo (keep b x (select p xs))
+    go true r = (a .0, r)
+    go false r = ascending-from lo (x + 1) (select p xs) (omega (arith, a .0)) r
 
 pub candidates-ascend : (s : Shortest) (forbidden : List ℕ) (start stop : ℕ) → Ascending (start + s .m) (candidates s forbidden start stop)
 unfolding candidates
-candidates-ascend s ps start stop = ascending-select (λ x. not (isBarred ps x)) (start + s .m) (rangeSize s start stop)
+candidates-ascend s ps start stop =
+    select-ascends (λ x. not (isBarred ps x)) (start + s .m) (upward (start + s .m) (rangeSize s start stop)) (upward-ascends (start + s .m) (rangeSize s start stop))
 
 -- ---- "Refused exactly if no such row exists, by 9 or 10."
 none-in : (s : Shortest) (ps : List ℕ) (start stop : ℕ) → stop - start ≤ 2 * s .m → isEmpty (candidates s ps start stop) ≡ true

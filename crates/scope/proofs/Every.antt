@@ -18,6 +18,11 @@ every-append p (x ∷ xs) ys = rw (every-append p xs ys) (go (p x))
     go true = refl
     go false = refl
 
+-- one member more, at the end
+pub every-end : {A : Type 0} (p : A → Bool) (l : List A) (x : A) → every p l ≡ true → p x ≡ true → every p (l ++ (x ∷ [])) ≡ true
+unfolding every
+every-end p l x h k = rw (every-append p l (x ∷ []), h, k)
+
 -- what every member passes, every member of a part does
 module _ {A : Type 0} (p : A → Bool) (i : ℕ) (l : List A) (e : every p l ≡ true) where
   parts : (every p (take i l) && every p (drop i l)) ≡ true

@@ -3,10 +3,14 @@ use mathlib.Core.Path.{_≡_, refl, ap}
 use mathlib.Core.Logic.{⊎-elim}
 use mathlib.Core.Bool.{Bool, true, false, cond}
 use mathlib.Core.List.{List, [], _∷_, _++_, List·Memᴰ, List·Memᴰ·head, List·Memᴰ·tail, List·Memᴰ·not-nil, List·Memᴰ·cases-cons, List·Memᴰ·append-cases, Memᴰ·append-right}
+use mathlib.Core.Option.{some}
+use Prim.Native.Nat.{ℕ}
 use lib.Ieee.{Float, lt}
 use Rattle.scope.specs.Lists.{_∈_}
-use Rattle.scope.specs.Grid.{Record, better, best}
+use Rattle.scope.specs.Asked.{Shortest}
+use Rattle.scope.specs.Grid.{Record, better, best, blank, trials, ofSome, search}
 use Rattle.scope.specs.Greatest.{numeric, FirstGreatest, kept, taken}
+use Rattle.scope.proofs.Never.{never}
 use Rattle.scope.proofs.Order.{both, lt-co, lt-trans, lt-asym, lt-numeric, lt-irrefl}
 
 -- b < w, and r is numeric and not above b: r < w
@@ -40,6 +44,16 @@ best-is-first b (r ∷ rs) = go (lt (b .gain) (r .gain)) refl (best-is-first (be
     go : (c : Bool) → lt (b .gain) (r .gain) ≡ c → FirstGreatest (cond c r b) rs (best (cond c r b) rs) → FirstGreatest b (r ∷ rs) (best (cond c r b) rs)
     go true h f = after-greater b r rs (best r rs) h f
     go false h f = after-other b r rs (best b rs) h f
+
+-- a search's record is the first of the greatest trials, from the blank record on
+pub search-first : (gain : ℕ → ℕ → ℕ → Float) (s : Shortest) (forbidden : List ℕ) (start stop : ℕ) (r : Record)
+    → search gain s forbidden start stop ≡ some r → FirstGreatest (blank start stop) (trials gain s forbidden start stop) r
+unfolding search
+search-first gain s forbidden start stop r h = let tries = trials gain s forbidden start stop in go tries h (best-is-first (blank start stop) tries)
+  where
+    go : (l : List Record) → ofSome (blank start stop) l ≡ some r → FirstGreatest (blank start stop) l (best (blank start stop) l) → FirstGreatest (blank start stop) l r
+    go [] h f = never (cc)
+    go (x ∷ l) h f = let w : best (blank start stop) (x ∷ l) ≡ r = cc in rw w at f
 
 -- ---- what the first of the greatest is
 

@@ -3,18 +3,20 @@ use mathlib.Core.Path.{_≡_, refl}
 use mathlib.Core.Logic.{⊎-elim}
 use mathlib.Core.Bool.{Bool, true, false, _&&_, false≢true}
 use mathlib.Core.List.{List, [], _∷_, List·Memᴰ, List·Memᴰ·head, List·Memᴰ·tail, List·Memᴰ·not-nil, List·Memᴰ·cases-cons}
-use Prim.Native.Nat.{ℕ, _≤_, _<_}
+use Prim.Native.Nat.{ℕ, zero, suc, _≤_, _<_}
 use native.Mathlib.Omega.{arith}
 use borrow.Author.Tests.{leb-true}
 use lib.Dec.{leb}
 use lib.Ieee.{Float}
-use Rattle.scope.specs.Refusals.{Test, test, firstOf}
+use lib.ListN.{length, getD}
+use Rattle.scope.specs.Refusals.{Test, test, firstOf, given, unless}
 use Rattle.scope.specs.Calls.{lengthTests, CandidatesAsked, candidatesTests, GainAsked, gainTests, SearchAsked, searchTests, SeededAsked, seededTests, TreeAsked, treeTests, countedTests, OrderingAsked, orderingTests, PredictAsked, predictTests, CurveAsked, curveTests, PickAsked, pickTests, GuessesAsked, guessesTests, PermutationAsked, permutationTests}
 use Rattle.scope.specs.Program.{Deck, deckTests}
-use Rattle.scope.proofs.Members.{first-of, second-of}
+use Rattle.scope.proofs.Never.{never}
+use Rattle.scope.proofs.Members.{first-of, second-of, at-in}
 
 -- the numbers never fall, from lo on
-abbrev inOrder : ℕ → List Test → Bool
+abbrev pub inOrder : ℕ → List Test → Bool
 inOrder lo [] = true
 inOrder lo (test b k ∷ ts) = leb lo k && inOrder k ts
 
@@ -59,6 +61,22 @@ lowest-from (test false k ∷ ts) lo h p =
 
 pub lowest : (ts : List Test) → inOrder 1 ts ≡ true → Lowest ts (firstOf ts)
 lowest ts h = lowest-from ts 1 h (omega arith)
+
+-- where no number is given, the test number i does not hold
+abbrev pub holds : Test → Bool
+holds (test b k) = b
+
+pub not-held : (ts : List Test) → inOrder 1 ts ≡ true → firstOf ts ≡ 0 → (i : ℕ) → i < length ts → holds (getD ts i (test false 0)) ≡ false
+not-held ts h z i l = go (getD ts i (test false 0)) (at-in ts i (test false 0) l)
+  where
+    go : (t : Test) → List·Memᴰ t ts → holds t ≡ false
+    go (test true k) i = absurd (lowest ts h .clean z k i)
+    go (test false k) i = refl
+
+-- a call gives its value where the number is 0, and only there
+pub given-is : {A : Type 0} (k : ℕ) (v l : A) → unless k v ≡ given l → (k ≡ 0) × (v ≡ l)
+given-is zero v l e = (refl, cc)
+given-is (suc k) v l e = never (cc)
 
 -- ---- every call's tests are in number order, whatever its input is
 pub record InOrder : Type 0 where

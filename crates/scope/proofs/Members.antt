@@ -1,13 +1,16 @@
--- Members of lists: those that `every` and `getD` speak of; those that stand in a relation to every later one; how many there are if none stands twice. Assumes nothing.
+-- Members of lists: those that `every`, `getD` and `isMember` speak of; those that stand in a relation to every later one; how many there are if none stands twice. Assumes nothing.
 use mathlib.Core.Path.{_≡_, refl, sym, _∙_, ap, ap₂, subst}
-use mathlib.Core.Logic.{⊎-elim, _≢_}
-use mathlib.Core.Bool.{Bool, true, false, _&&_, false≢true}
+use mathlib.Core.Logic.{_⊎_, ⊎-elim, _≢_}
+use mathlib.Core.Bool.{Bool, true, false, _&&_, _||_, false≢true}
 use mathlib.Core.List.{List, [], _∷_, _++_, List·Memᴰ, List·Memᴰ·head, List·Memᴰ·tail, List·Memᴰ·not-nil, List·Memᴰ·cases-cons, List·Memᴰ·append-cases, List·Memᴰ·eq-of-singleton}
 use Prim.Native.Nat.{ℕ, zero, suc, _+_, _≤_, _<_}
 use native.Mathlib.Nat.{le-antisymm}
 use native.Mathlib.Omega.{arith}
+use borrow.Author.Tests.{eqb-true, eq-eqb}
+use lib.Dec.{eqb}
 use lib.ListN.{length, getD}
 use Rattle.scope.specs.Lists.{_∈_, Pairwise, Distinct, every, upward}
+use Rattle.scope.specs.Curves.{isMember}
 use Rattle.scope.proofs.Lists.{upward-are}
 
 pub first-of : (a b : Bool) → (a && b) ≡ true → a ≡ true
@@ -91,6 +94,23 @@ module _ {A : Type 0} where
   pairwise-more R [] b h f = (λ y m. absurd (List·Memᴰ·not-nil m), tt)
   pairwise-more R (x ∷ l) b h f =
       (λ y m. ⊎-elim (λ (i : y ∈ l). h .0 y i) (λ (i : y ∈ (b ∷ [])). subst (R x) (sym (List·Memᴰ·eq-of-singleton i)) (f x (List·Memᴰ·head refl))) (List·Memᴰ·append-cases l m), pairwise-more R l b (h .1) (λ a m. f a (List·Memᴰ·tail m)))
+
+-- ---- the rows that `isMember` finds
+pub member-in : (x : ℕ) (l : List ℕ) → isMember x l ≡ true → x ∈ l
+member-in x [] h = absurd (false≢true h)
+member-in x (y ∷ l) h = go (eqb x y) refl h (member-in x l)
+  where
+    go : (b : Bool) → eqb x y ≡ b → (b || isMember x l) ≡ true → (isMember x l ≡ true → x ∈ l) → x ∈ y ∷ l
+    go true e h r = List·Memᴰ·head (eqb-true x y e)
+    go false e h r = List·Memᴰ·tail (r h)
+
+pub in-member : (x : ℕ) (l : List ℕ) → x ∈ l → isMember x l ≡ true
+in-member x [] i = absurd (List·Memᴰ·not-nil i)
+in-member x (y ∷ l) i = go (eqb x y) refl (in-member x l) (List·Memᴰ·cases-cons i)
+  where
+    go : (b : Bool) → eqb x y ≡ b → (x ∈ l → isMember x l ≡ true) → (x ≡ y) ⊎ (x ∈ l) → (b || isMember x l) ≡ true
+    go true e r w = refl
+    go false e r w = ⊎-elim (λ q. absurd (false≢true (sym e ∙ eq-eqb x y q))) r w
 
 -- ---- the numbers from lo on
 pub upward-distinct : (lo n : ℕ) → Distinct (upward lo n)

@@ -1,15 +1,21 @@
--- "NaN can't arise from finite cells": a difference of finite floats is numeric, its square is +0, above 0 or +infinity, and so is a sum of such, a squared distance. Assumes nothing.
+-- "NaN can't arise from finite cells": a finite float and a numeric one have a numeric sum, and finite ones a numeric difference, whose square is
+-- +0, above 0 or +infinity, and so is a sum of such, a squared distance; and a quotient by a whole number above 0 is numeric. Assumes nothing.
 use mathlib.Core.Path.{_≡_, refl, _∙_}
 use mathlib.Core.Bool.{Bool, true, false, not, cond, _&&_, Bool·beq, false≢true}
 use mathlib.Core.List.{List, [], _∷_}
 use Prim.Native.Nat.{ℕ, zero, suc, _+_, _*_, _^_, _-_, _/_, _%_, _≤_, _<_, compare}
 use native.Mathlib.Decide.{decLt}
-use native.Mathlib.Nat.{add-mul, mul-le-mul-right}
+use native.Mathlib.Nat.{add-mul, mul-pos, mul-le-mul-right}
 use native.Mathlib.Omega.{arith}
+use borrow.Author.Tests.{ne-eqb}
 use lib.Dec.{ltb}
 use lib.IntN.{ℤ, pos}
 use lib.Count.{trailingZeros}
-use lib.Ieee.{Float, nan, inf, fin, Format, binary64, low, emax, prec, size, nearest, minus, odd, units, round, sum, neg, add, sub, mul, up, down}
+use lib.Ieee.{Float, nan, inf, fin, Format, binary64, low, emax, prec, size, nearest, minus, odd, units, round, sum, neg, add, sub, mul, div, ofInt, unlike, up, down}
+use lib.Ieee.Exact.{HasValue}
+use lib.Ieee.Back.{round-whole}
+use lib.Ieee.Fits.{down-pos}
+use lib.Ieee.Positive.{first-pos}
 use lib.ListN.{length, getD, length-append, List·getD-append}
 use lib.Seq.{getD-at}
 use Rattle.scope.specs.Floats.{isFinite}
@@ -69,13 +75,39 @@ module _ (f : Format) where
       pick true x y h k = h
       pick false x y h k = k
 
+  pub add-numeric : (x y : Float) → isFinite x ≡ true → numeric y ≡ true → numeric (add f x y) ≡ true
+  unfolding add
+  add-numeric nan y h k = absurd (false≢true h)
+  add-numeric (inf s) y h k = absurd (false≢true h)
+  add-numeric (fin s m e) nan h k = k
+  add-numeric (fin s m e) (inf t) h k = refl
+  add-numeric (fin s m e) (fin t n d) h k = sum-numeric s (m * up e * down d) t (n * up d * down e) (down e * down d)
+
+  neg-numeric : (x : Float) → isFinite x ≡ true → numeric (neg x) ≡ true
+  unfolding neg
+  neg-numeric nan h = h
+  neg-numeric (inf s) h = refl
+  neg-numeric (fin s m e) h = refl
+
   pub difference-numeric : (x y : Float) → isFinite x ≡ true → isFinite y ≡ true → numeric (sub f x y) ≡ true
-  unfolding sub add neg
-  difference-numeric nan y h k = absurd (false≢true h)
-  difference-numeric (inf s) y h k = absurd (false≢true h)
-  difference-numeric (fin s m e) nan h k = absurd (false≢true k)
-  difference-numeric (fin s m e) (inf t) h k = absurd (false≢true k)
-  difference-numeric (fin s m e) (fin t n d) h k = sum-numeric s (m * up e * down d) (not t) (n * up d * down e) (down e * down d)
+  unfolding sub
+  difference-numeric x y h k = add-numeric x (neg y) h (neg-numeric y k)
+
+  -- y is the whole number b, above 0
+  div-numeric : (x y : Float) (b : ℕ) → numeric x ≡ true → HasValue y false b 1 → 0 < b → numeric (div f x y) ≡ true
+  unfolding div
+  div-numeric x nan b h v p = absurd v
+  div-numeric x (inf t) b h v p = absurd v
+  div-numeric nan (fin t n d) b h v p = h
+  div-numeric (inf s) (fin t n d) b h v p = refl
+  div-numeric (fin s m e) (fin t n d) b h v p =
+      let above : 0 < n * up d = omega (arith, v .1, mul-pos p (down-pos d)) in
+      let at = first-pos n (up d) above in
+      rw (ne-eqb n 0 (λ z. omega arith)) (round-numeric (unlike s t) (m * up e * down d) (n * up d * down e))
+
+  pub quotient-numeric : (a b : ℕ) → 0 < b → b ≤ 2 ^ prec f → numeric (div f (ofInt f (pos a)) (ofInt f (pos b))) ≡ true
+  unfolding ofInt
+  quotient-numeric a b p l = div-numeric (round f false a 1) (round f false b 1) b (round-numeric false a 1) (round-whole f false b l) p
 
   pub square-unsigned : (x : Float) → numeric x ≡ true → unsigned (mul f x x) ≡ true
   unfolding mul

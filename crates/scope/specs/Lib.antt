@@ -18,6 +18,7 @@ pub mod Curves
 pub mod Permutations
 pub mod Sorted
 pub mod Calls
+pub mod Numbers
 pub mod Text
 pub mod Program
 pub mod Marked

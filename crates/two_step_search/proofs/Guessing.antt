@@ -1,35 +1,17 @@
 -- Members of the candidates, by a test of the row alone; guesses by value. Assumes nothing.
 use mathlib.Core.Path.{_≡_, refl, sym, _∙_, ap}
-use mathlib.Core.Logic.{⊎-elim}
-use mathlib.Core.Bool.{Bool, true, false, not, _||_, false≢true}
-use mathlib.Core.List.{List, [], _∷_, _++_, List·Memᴰ·head, List·Memᴰ·tail, List·Memᴰ·not-nil, List·Memᴰ·cases-cons}
+use mathlib.Core.Bool.{Bool, true, false, not, false≢true}
+use mathlib.Core.List.{List, [], _++_}
 use Prim.Native.Nat.{ℕ, _+_, _-_, _*_, _/_, _≤_, _<_}
 use native.Mathlib.Omega.{arith}
-use borrow.Author.Tests.{eqb-true, eq-eqb}
-use lib.Dec.{eqb}
 use Rattle.scope.specs.Lists.{_∈_, upward, keep}
 use Rattle.scope.specs.Asked.{Shortest}
 use Rattle.scope.specs.Candidates.{isBarred, rangeSize, candidates}
 use Rattle.scope.specs.Curves.{isMember}
 use Rattle.scope.proofs.Lists.{select-are, select-all, upward-are}
+use Rattle.scope.proofs.Members.{member-in, in-member}
 use Rattle.two_step_search.specs.Guessed.{rowsOf, guessesIn}
 use Rattle.two_step_search.specs.declared.Guesses.{Guesses}
-
-member-in : (x : ℕ) (l : List ℕ) → isMember x l ≡ true → x ∈ l
-member-in x [] h = absurd (false≢true h)
-member-in x (y ∷ l) h = go (eqb x y) refl h (member-in x l)
-  where
-    go : (b : Bool) → eqb x y ≡ b → (b || isMember x l) ≡ true → (isMember x l ≡ true → x ∈ l) → x ∈ y ∷ l
-    go true e h r = List·Memᴰ·head (eqb-true x y e)
-    go false e h r = List·Memᴰ·tail (r h)
-
-in-member : (x : ℕ) (l : List ℕ) → x ∈ l → isMember x l ≡ true
-in-member x [] i = absurd (List·Memᴰ·not-nil i)
-in-member x (y ∷ l) i = go (eqb x y) refl (in-member x l) (List·Memᴰ·cases-cons i)
-  where
-    go : (b : Bool) → eqb x y ≡ b → (x ∈ l → isMember x l ≡ true) → mathlib.Core.Logic._⊎_ (x ≡ y) (x ∈ l) → (b || isMember x l) ≡ true
-    go true e r w = refl
-    go false e r w = ⊎-elim (λ q. absurd (false≢true (sym e ∙ eq-eqb x y q))) r w
 
 -- two tests that pass together are the same
 same-test : (a b : Bool) → (a ≡ true → b ≡ true) → (b ≡ true → a ≡ true) → a ≡ b

@@ -1,0 +1,44 @@
+-- Where no NaN is stored or answered. Only these can be one: the gain that `gain` answers and the curve, where finite values overflow, and the f32
+-- nearest to a NaN. proofs/Numbers.antt has the rest, for every call.
+use mathlib.Core.Path.{_≡_}
+use mathlib.Core.Bool.{true}
+use mathlib.Core.List.{List}
+use mathlib.Core.Option.{some}
+use lib.Ieee.{Float, binary64, fits}
+use Rattle.scope.specs.Lists.{_∈_, every}
+use Rattle.scope.specs.Refusals.{given}
+use Rattle.scope.specs.Greatest.{numeric}
+use Rattle.scope.specs.Grid.{Record}
+use Rattle.scope.specs.Tree.{Node}
+use Rattle.scope.specs.Calls.{Split, GainAsked, gainCall, SearchAsked, searchCall, SeededAsked, seededCall, TreeAsked, treeCall, OrderingAsked, orderingCall, PredictAsked, predictCall, PickAsked, pickAnswer, Tested, PermutationAsked, permutationAnswer}
+
+-- no NaN stands in the list
+abbrev pub AllNumeric : List Float → Type 0
+AllNumeric l = every numeric l ≡ true
+
+-- every value is one of the format, as what a lent f64 slice holds is
+abbrev pub AllF64 : List Float → Type 0
+AllF64 l = every (fits binary64) l ≡ true
+
+pub record NeverNaN : Type 0 where
+  -- ---- prefix sums: infinite where they overflow, and never NaN, as finite cells are added to them
+  pub gain-sums : (a : GainAsked) → AllF64 (a .matrix .cells) → AllNumeric (gainCall a .sums)
+  pub search-sums : (a : SearchAsked) → AllF64 (a .matrix .cells) → AllNumeric (searchCall a .sums)
+  pub seeded-sums : (a : SeededAsked) → AllF64 (a .matrix .cells) → AllNumeric (seededCall a .sums)
+  pub tree-sums : (a : TreeAsked) → AllF64 (a .matrix .cells) → AllNumeric (treeCall a .sums)
+  -- ---- gains: "NaN never does" win
+  -- what a search answers
+  pub search : (a : SearchAsked) (s : Split) → searchCall a .answer ≡ given s → numeric (s .gain) ≡ true
+  -- each stored record
+  pub seeded : (a : SeededAsked) (r : Record) → r ∈ seededCall a .records → numeric (r .gain) ≡ true
+  pub tree : (a : TreeAsked) (r : Record) → r ∈ treeCall a .records → numeric (r .gain) ≡ true
+  -- each node's choice
+  pub node : (a : TreeAsked) (d : Node) (r : Record) → d ∈ treeCall a .nodes → d .choice ≡ some r → numeric (r .gain) ≡ true
+  -- what a pick answers, whatever the curve holds
+  pub pick : (a : PickAsked) (s : Split) → pickAnswer a ≡ given s → numeric (s .gain) ≡ true
+  -- ---- "A distance may overflow to infinity; NaN can't arise from finite cells."
+  pub ordering-distances : (a : OrderingAsked) → AllNumeric (orderingCall a .distances)
+  pub predict-distances : (a : PredictAsked) → AllNumeric (predictCall a .distances)
+  -- ---- quotients of counts: the divisor is 1 or more
+  pub predictions : (a : PredictAsked) → AllNumeric (predictCall a .predictions)
+  pub p-value : (a : PermutationAsked) (t : Tested) → permutationAnswer a ≡ given t → numeric (t .p) ≡ true
