@@ -1,19 +1,28 @@
--- What can be said of the bytes that were read: no contract of the C library's says which they are, so each statement is of some bytes.
+-- What can be said of the bytes that were read. The first ones stand in a lent buffer, which is named. No contract of the C library's says which bytes a read
+-- delivers, so of those that are read behind them, in lots, each statement is of some bytes.
 use mathlib.Core.Path.{_≡_}
-use mathlib.Core.List.{List}
+use mathlib.Core.List.{List, _++_}
 use Prim.Native.Nat.{ℕ, _+_, _*_, _^_, _≤_}
 use lib.Ieee.{Float}
-use lib.ListN.{length}
+use lib.ListN.{length, take}
 use Rattle.scope.specs.Program.{readInput, program}
 use Rattle.deck.specs.declared.State.{State}
 use Rattle.deck.specs.declared.Read.{Read}
 use Rattle.deck.specs.Walk.{run, fed}
-use Rattle.deck.specs.Meaning.{Says, after}
+use Rattle.deck.specs.Meaning.{Says, Right}
+use Rattle.sheet.specs.declared.reading.First.{First}
+use Rattle.sheet.specs.declared.reading.First.the-variants as first
 use Rattle.sheet.specs.declared.reading.Lot.{Lot}
 use Rattle.sheet.specs.declared.reading.Lot.the-variants as lot
 use Rattle.sheet.specs.declared.reading.Input.{Input}
 use Rattle.sheet.specs.declared.reading.Input.the-variants as input
 
+-- ---- the first bytes: so many stand in the buffer
+abbrev pub Filled : List ℕ → First → Type 0
+Filled kept (first.Bytes n) = n ≤ length kept
+Filled kept first.Failed = Unit {0}
+
+-- ---- the rest, in lots
 -- a lot, fed to the state s and to the slices
 pub record Fed (s : State) (cells : List Float) (forbidden : List ℕ) (t : State) (cells′ : List Float) (forbidden′ : List ℕ) : Type 0 where
   pub bytes : List ℕ
@@ -25,22 +34,41 @@ Fetched s cells forbidden cells′ forbidden′ (lot.More t) = Fed s cells forbi
 Fetched s cells forbidden cells′ forbidden′ lot.Ended = (cells′ ≡ cells) × (forbidden′ ≡ forbidden)
 Fetched s cells forbidden cells′ forbidden′ lot.Failed = Unit {0}
 
--- the state after some bytes from the start on, with so many turns left of 2^47
-pub record Begun (cells₀ : List Float) (forbidden₀ : List ℕ) (s : State) (cells : List Float) (forbidden : List ℕ) (turns : ℕ) : Type 0 where
+-- the state after some bytes from the state s₀ on, with so many turns left of 2^47
+pub record Begun (s₀ : State) (cells₀ : List Float) (forbidden₀ : List ℕ) (s : State) (cells : List Float) (forbidden : List ℕ) (turns : ℕ) : Type 0 where
   pub bytes : List ℕ
   pub few : length bytes + 65536 * turns ≤ 2 ^ 63
-  pub is : run s cells forbidden ≡ after bytes cells₀ forbidden₀
+  pub is : run s cells forbidden ≡ fed (run s₀ cells₀ forbidden₀) bytes
 
--- a reading that says what the definitions say of some input, read into slices that have room
-pub record Whole (cells₀ : List Float) (forbidden₀ : List ℕ) (cells : List Float) (forbidden : List ℕ) (read : Read) : Type 0 where
+-- the reading at the state after some bytes
+pub record Rest (s₀ : State) (cells₀ : List Float) (forbidden₀ : List ℕ) (cells : List Float) (forbidden : List ℕ) (read : Read) : Type 0 where
   pub bytes : List ℕ
+  pub few : length bytes ≤ 2 ^ 63
+  pub state : State
+  pub is : run state cells forbidden ≡ fed (run s₀ cells₀ forbidden₀) bytes
+  pub right : Right state read
+
+abbrev pub Rested : State → List Float → List ℕ → List Float → List ℕ → Input → Type 0
+Rested s₀ cells₀ forbidden₀ cells forbidden (input.Read read) = Rest s₀ cells₀ forbidden₀ cells forbidden read
+Rested s₀ cells₀ forbidden₀ cells forbidden input.Failed = Unit {0}
+
+-- ---- the whole input
+-- its bytes: the first n that stand in the buffer; or all that stand there, and some behind them
+pub data Held (kept : List ℕ) : List ℕ → Type 0 where
+  ended : (n : ℕ) → n ≤ length kept → Held kept (take n kept)
+  longer : (more : List ℕ) → Held kept (kept ++ more)
+
+-- a reading that says what the definitions say of it, read into slices that have room
+pub record Whole (kept : List ℕ) (cells₀ : List Float) (forbidden₀ : List ℕ) (cells : List Float) (forbidden : List ℕ) (read : Read) : Type 0 where
+  pub bytes : List ℕ
+  pub held : Held kept bytes
   pub says : 2048 ≤ length cells₀ → 128 ≤ length forbidden₀ → Says cells₀ forbidden₀ read cells forbidden (readInput bytes)
 
-abbrev pub Taken : List Float → List ℕ → List Float → List ℕ → Input → Type 0
-Taken cells₀ forbidden₀ cells forbidden (input.Read read) = Whole cells₀ forbidden₀ cells forbidden read
-Taken cells₀ forbidden₀ cells forbidden input.Failed = Unit {0}
+abbrev pub Taken : List ℕ → List Float → List ℕ → List Float → List ℕ → Input → Type 0
+Taken kept cells₀ forbidden₀ cells forbidden (input.Read read) = Whole kept cells₀ forbidden₀ cells forbidden read
+Taken kept cells₀ forbidden₀ cells forbidden input.Failed = Unit {0}
 
--- what is to be written: nothing, or the program's text for some input
-pub data Told (text : List ℕ) : Type 0 where
-  nothing : length text ≡ 0 → Told text
-  of : (bytes : List ℕ) → text ≡ program bytes → Told text
+-- what is to be written: nothing, or the program's text for the input
+pub data Told (kept text : List ℕ) : Type 0 where
+  nothing : length text ≡ 0 → Told kept text
+  of : (bytes : List ℕ) → Held kept bytes → text ≡ program bytes → Told kept text

@@ -1,14 +1,27 @@
-// Standard input, read in lots and fed to `deck` as it comes.
+// Standard input, read and fed to `deck`. Its first bytes are kept in a lent buffer, more of them than a deck that has a sheet can have, so that contracts can
+// name them; what is longer is read in lots.
+// That the bytes which `libc::read` stores are the input's, one call after another, no contract says: `keep` and `read_lot` are to be read.
 use answers::BARRED;
 use deck::Read;
 use deck::State;
 use libc::STDIN_FILENO;
 use line::MOST_CELLS;
-ghost use Rattle.sheet.specs.Taken.{Fetched, Taken};
+ghost use Prim.Native.Nat.{_≤_};
+ghost use lib.ListN.{length};
+ghost use Rattle.sheet.specs.Taken.{Filled, Fetched, Rested, Taken};
+
+// How many bytes are kept. A deck with a sheet has less than 30,000: 64 pairs, and 2,048 cells of six bytes, each on a line of its own at most.
+pub const KEPT: usize = 65536;
 
 // A proved loop has to end, and nothing says that the input does: the turns are counted down from a number that no run uses up, and that keeps every line's
 // number in a `usize`.
 const TURNS: u64 = 0x8000_0000_0000;
+
+// How many bytes of the input stand in the buffer: all of them, if they don't fill it.
+enum First {
+    Bytes(usize),
+    Failed,
+}
 
 // One read: the state after its bytes, the input's end, or a read that failed.
 enum Lot {
@@ -21,6 +34,25 @@ enum Lot {
 pub enum Input {
     Read(Read),
     Failed,
+}
+
+// Reads until the buffer is full or the input ends.
+fn keep(kept: &mut [u8]) -> First
+    ensures { λ r. ⌜ Filled (now (kept .exit)) r ⌝ }
+{
+    let mut n = 0;
+    while n < kept.len() {
+        let got = libc::read(STDIN_FILENO, &mut kept[n..]);
+        if got < 0 {
+            return First::Failed;
+        }
+        let more = io::count(got, &kept[n..]);
+        if more == 0 {
+            return First::Bytes(n);
+        }
+        n += more;
+    }
+    First::Bytes(n)
 }
 
 fn read_lot(s: State, cells: &mut [f64; MOST_CELLS], forbidden: &mut [usize; BARRED]) -> Lot
@@ -38,11 +70,11 @@ fn read_lot(s: State, cells: &mut [f64; MOST_CELLS], forbidden: &mut [usize; BAR
     Lot::More(deck::feed(s, &lot[..n], cells, forbidden))
 }
 
-// Reads to the end. An input that can't be read to its end has no reading.
-pub fn read_all(cells: &mut [f64; MOST_CELLS], forbidden: &mut [usize; BARRED]) -> Input
-    ensures { λ r. ⌜ Taken (now (cells .entry)) (now (forbidden .entry)) (now (cells .exit)) (now (forbidden .exit)) r ⌝ }
+// Reads on to the end.
+fn read_rest(first: State, cells: &mut [f64; MOST_CELLS], forbidden: &mut [usize; BARRED]) -> Input
+    ensures { λ r. ⌜ Rested first (now (cells .entry)) (now (forbidden .entry)) (now (cells .exit)) (now (forbidden .exit)) r ⌝ }
 {
-    let mut s = deck::start();
+    let mut s = first;
     let mut turns = TURNS;
     while turns > 0 {
         match read_lot(s, cells, forbidden) {
@@ -53,4 +85,23 @@ pub fn read_all(cells: &mut [f64; MOST_CELLS], forbidden: &mut [usize; BARRED]) 
         turns -= 1;
     }
     Input::Failed
+}
+
+// The whole input's reading. An input that can't be read to its end has none.
+pub fn read_all(
+    kept: &mut [u8],
+    cells: &mut [f64; MOST_CELLS],
+    forbidden: &mut [usize; BARRED],
+) -> Input
+    requires { ⌜ length (now kept) ≤ 65536 ⌝ }
+    ensures { λ r. ⌜ Taken (now (kept .exit)) (now (cells .entry)) (now (forbidden .entry)) (now (cells .exit)) (now (forbidden .exit)) r ⌝ }
+{
+    let First::Bytes(n) = keep(kept) else {
+        return Input::Failed;
+    };
+    let s = deck::feed(deck::start(), &kept[..n], cells, forbidden);
+    if n < kept.len() {
+        return Input::Read(deck::finish(s));
+    }
+    read_rest(s, cells, forbidden)
 }

@@ -12,7 +12,7 @@ returns c = (nothing refl, omega arith)
 
 returns-2 : tie.Need-returns-2
 returns-2 c =
-    let whole = rw (c .before .before .before .before .before .before .before .before .before .read .given .1) at (c .before .before .before .before .before .before .before .before .before .before .before .read-all .ensures) in
+    let whole = rw (c .before .before .before .before .before .before .before .before .before .read .given .1) at (c .before .before .before .before .before .before .before .before .before .before .before .before .before .read-all .ensures) in
     let text = c .answer .ensures in
     (told-of (omega arith) (omega arith) whole (text .1 .0), text .1 .1)
 
@@ -23,6 +23,8 @@ run-spec =
     (λ c κs. search needs)
     (λ c. search needs)
     (λ c. search needs)
+    (λ c. search needs)
     returns
     (λ c κs. search needs)
+    (λ c. search needs)
     returns-2)

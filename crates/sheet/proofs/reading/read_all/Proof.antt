@@ -1,42 +1,56 @@
--- `read_all` meets its contract: the state is that after the bytes so far. The measure is the number of turns that are left.
+-- `read_all` meets its contract: the bytes that stand in the buffer are fed, and what is read behind them, if they fill it.
+use mathlib.Core.Path.{_≡_, refl, sym, _∙_}
+use Prim.Native.Nat.{_≤_}
 use native.Mathlib.Omega.{arith}
-use Rattle.sheet.specs.Taken.{Begun}
-use Rattle.sheet.proofs.Lots.{begun-start, begun-more, begun-whole}
+use denote.Ref.{now}
+use lib.ListN.{length, take}
+use lib.Seq.{length-take-le}
+use Rattle.deck.specs.Walk.{run}
+use Rattle.deck.specs.Meaning.{after}
+use Rattle.sheet.proofs.Lots.{whole-ended, whole-rested}
 use borrow.Author.Needs.{needs}
 use Rattle.sheet.proofs.reading.read_all.Statement.{statement}
 use Rattle.sheet.proofs.reading.read_all.Tie as tie
 
-abbrev Inv-loop : tie.InvT-loop
-Inv-loop cells₀ forbidden₀ s₀ turns₀ cells forbidden s turns = Begun cells₀ forbidden₀ s cells forbidden turns
+-- so many bytes stand in the buffer
+few : (c : tie.After-start) → c .before .before .n .given .0 .0 ≤ length (c .before .before .before .before .before .before .keep .last .0)
+few c = rw (c .before .before .n .given .1) at (c .before .before .before .before .before .before .keep .ensures)
 
-abbrev μ-loop : tie.MeasureT-loop
-μ-loop cells₀ forbidden₀ s₀ turns₀ cells forbidden s turns = turns
+-- the state after them
+fed-first : (c : tie.After-feed) → run (c .feed .result) (c .feed .last .1 .1 .0) (c .feed .last .1 .1 .1 .0) ≡ after (take (c .before .before .before .before .before .before .n .given .0 .0) (c .before .before .before .before .before .before .before .before .before .before .keep .last .0)) (now (c .before .before .before .before .before .before .before .before .before .before .before .before .before .args .cells)) (now (c .before .before .before .before .before .before .before .before .before .before .before .before .before .args .forbidden))
+fed-first c = let f = c .feed .ensures in rw (f .0, f .1 .0, f .1 .1, c .before .before .before .before .start .ensures)
 
-loop-holds : tie.Need-loop-holds Inv-loop μ-loop
-loop-holds c = begun-start (c .start .ensures)
+short : (c : tie.After-kept) → length (c .before .keep .last .0) ≤ 65536
+short c = omega (arith, c .kept .given, c .before .before .before .before .pre)
 
-returns : tie.Need-returns Inv-loop μ-loop
-returns c = let kept = rw (c .before .enum-told .given .1) at (c .before .before .before .read-lot .ensures) in begun-whole (c .before .before .before .before .before .before .before .loop .inv) (c .finish .ensures .1) (kept .0) (kept .1)
+slice-reshare-prefix-feed : tie.Need-slice-reshare-prefix-feed
+slice-reshare-prefix-feed c = few c
 
-loop-again : tie.Need-loop-again Inv-loop μ-loop
-loop-again c = begun-more (c .before .before .before .before .before .before .before .loop .inv) (omega arith) (rw (c .before .next .given .1) at (c .before .before .before .read-lot .ensures))
+slice-aggregate-feed : tie.Need-slice-aggregate-feed
+slice-aggregate-feed c = sym (length-take-le _ _ (few (c .before)))
+
+returns-2 : tie.Need-returns-2
+returns-2 c = whole-ended _ _ _ (short (c .before .before .before .before .before .before .before .before .before .before .before)) _ (few (c .before .before .before .before .before .before)) _ _ _ (fed-first (c .before .before)) (c .finish .ensures .1)
+
+returns-3 : tie.Need-returns-3
+returns-3 c = whole-rested _ _ _ (short (c .before .before .before .before .before .before .before .before .before .before .before .before .before)) _ (few (c .before .before .before .before .before .before .before .before)) _ _ _ (fed-first (c .before .before .before .before)) (omega arith) _ _ (c .read-rest .result) (c .read-rest .ensures)
 
 pub read-all-spec : {M : Type 1} → statement M
 read-all-spec =
     tie.close
     (tie.spec
-    Inv-loop
-    μ-loop
-    (λ c κs. search needs)
-    loop-holds
     (λ c κs. search needs)
     (λ c. search needs)
     (λ c. search needs)
+    (λ c. search needs)
+    (λ c. search needs)
     (λ c κs. search needs)
-    returns
+    slice-reshare-prefix-feed
+    slice-aggregate-feed
+    (λ c κs. search needs)
+    (λ c κs. search needs)
     (λ c. search needs)
+    returns-2
+    (λ c κs. search needs)
     (λ c. search needs)
-    (λ c. search needs)
-    (λ c. search needs)
-    loop-again
-    (λ c. search needs))
+    returns-3)
