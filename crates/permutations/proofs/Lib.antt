@@ -1,4 +1,5 @@
 -- Laws on permutations and marks.
 pub mod Times
+pub mod Bits
 pub mod Marked
 pub mod Passes

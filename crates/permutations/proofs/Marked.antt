@@ -1,104 +1,104 @@
--- Marks of the values from low on, made with one stamp: after the values passed, each that stands among them bears the stamp, once. Assumes nothing.
-use mathlib.Core.Path.{_≡_, refl}
-use mathlib.Core.Logic.{_⊎_, inl, inr, ⊎-elim}
-use mathlib.Core.Bool.{Bool, true, false, not, _&&_, cond, true≢false, false≢true}
+-- Marks of the values from low to high - 1: after the values passed, each that stands among them is marked, and stands there once. Assumes nothing.
+use mathlib.Core.Path.{_≡_, refl, sym, _∙_, ap}
+use mathlib.Core.Bool.{Bool, true, false, cond, true≢false, false≢true}
 use mathlib.Core.List.{List, [], _∷_, _++_}
-use Prim.Native.Nat.{ℕ, suc, _+_, _-_, _≤_, _<_}
+use Prim.Native.Nat.{ℕ, suc, _+_, _-_, _%_, _≤_, _<_}
 use native.Mathlib.Numerals.{add-one}
 use native.Mathlib.Omega.{arith}
-use borrow.Author.Tests.{lt-ltb, ltb-true, ltb-false, eqb-true, eqb-false}
-use lib.Dec.{ltb, eqb}
-use lib.ListN.{length, getD, take, set, length-set, List·getD-eq-default}
-use lib.Seq.{take-suc, getD-set-same, getD-set-other}
+use borrow.Author.Tests.{leb-true, leb-false, lt-ltb, ltb-true, le-leb, eqb-true, eqb-false}
+use lib.Dec.{leb, ltb, eqb}
+use lib.ListN.{length, getD, take}
+use lib.Seq.{take-suc}
 use Rattle.scope.specs.Lists.{select, every}
 use Rattle.scope.specs.Permutations.{times, isPermutation}
-use Rattle.permutations.specs.Marks.{bears, stamped, Fresh, Passed}
-use Rattle.permutations.proofs.Times.{past, times-append, times-same, times-other, times-take, refuted-twice}
+use Rattle.permutations.specs.Marks.{isMarked, withMark, Unmarked, Serves, served, showsWrong, withValue, Passed}
+use Rattle.permutations.proofs.Bits.{none-marked, mark-same, mark-other}
+use Rattle.permutations.proofs.Times.{counted, times-append, times-same, times-other, times-take, refute, refuted-twice, refuted-outside}
 use Rattle.scope.proofs.Every.{every-append}
+use Rattle.scope.proofs.Members.{first-of, second-of, at-in}
 
--- the mark of a value that was passed t times
-abbrev Mark : ℕ → ℕ → ℕ → Type 0
-Mark stamp m t = ((t ≡ 0) × (m < stamp)) ⊎ ((t ≡ 1) × (m ≡ stamp))
+module _ (low high v : ℕ) where
+  pub served-is : low ≤ v → v < high → served low high v ≡ true
+  served-is l h = rw (le-leb low v l, lt-ltb v high h)
 
-pub record Marked (low stamp : ℕ) (marks passed : List ℕ) : Type 0 where
-  pub mark : (k : ℕ) → k < length marks → Mark stamp (getD marks k 0) (times (low + k) passed)
+  served-of : served low high v ≡ true → (low ≤ v) × (v < high)
+  served-of e = (leb-true low v (first-of _ _ e), ltb-true v high (second-of (leb low v) _ e))
 
-pub marked-none : (low stamp : ℕ) (marks : List ℕ) → Fresh stamp marks → Marked low stamp marks []
-unfolding select
-marked-none low stamp marks f = record { mark = λ k h. inl (refl, f .before k) }
+  pub served-not : (low ≤ v → v < high → ⊥) → served low high v ≡ false
+  served-not n = refute _ (λ e. n (served-of e .0) (served-of e .1))
 
-module _ (low stamp v : ℕ) (marks passed : List ℕ) (m : Marked low stamp marks passed) where
+pub record Marked (low high : ℕ) (marks passed : List ℕ) : Type 0 where
+  pub counts : (v : ℕ) → low ≤ v → v < high → times v passed ≡ counted (isMarked (v - low) marks)
+
+pub marked-none : (low high : ℕ) (marks : List ℕ) → Unmarked marks → Marked low high marks []
+unfolding select counted
+marked-none low high marks u = record { counts = λ v l h. rw (none-marked (v - low) marks u) }
+
+pub marked-once : (low high : ℕ) (marks passed : List ℕ) → Marked low high marks passed → (v : ℕ) → low ≤ v → v < high → times v passed ≤ 1
+unfolding counted
+marked-once low high marks passed m v l h = go (isMarked (v - low) marks) (m .counts v l h)
+  where
+    go : (b : Bool) → times v passed ≡ counted b → times v passed ≤ 1
+    go true e = omega arith
+    go false e = omega arith
+
+-- ---- one more value
+module _ (L low high v : ℕ) (marks passed : List ℕ) (m : Marked low high marks passed) where
   -- every other value was passed as often as before
   other : (w : ℕ) → (w ≡ v → ⊥) → times w (passed ++ (v ∷ [])) ≡ times w passed
   other w n = omega (arith, times-append w passed (v ∷ []), times-other w v n)
 
-  same : (w : ℕ) → w ≡ v → times w (passed ++ (v ∷ [])) ≡ times w passed + 1
-  same w e = omega (arith, times-append w passed (v ∷ []), times-same w v e)
+  same : times v (passed ++ (v ∷ [])) ≡ times v passed + 1
+  same = omega (arith, times-append v passed (v ∷ []), times-same v v refl)
 
-  pub marked-more : bears low stamp v marks ≡ false → Marked low stamp (stamped low stamp v marks) (passed ++ (v ∷ []))
-  marked-more n = go (ltb v low) refl n
+  marked-more : Serves L low high marks → showsWrong L low high v marks ≡ false → Marked low high (withValue low high v marks) (passed ++ (v ∷ []))
+  unfolding counted
+  marked-more s n = go (served low high v) refl n
     where
-      here : low ≤ v → eqb (getD marks (v - low) 0) stamp ≡ false → (k : ℕ) → k < length marks → (b : Bool) → eqb k (v - low) ≡ b
-          → Mark stamp (getD (set marks (v - low) stamp) k 0) (times (low + k) (passed ++ (v ∷ [])))
-      here l n k h true e =
-          let on : k ≡ v - low = eqb-true k (v - low) e in
-          rw (on, getD-set-same marks (v - low) stamp 0 (omega arith), same (low + (v - low)) (omega arith))
-          (⊎-elim (λ w. inr (omega arith, refl)) (λ w. absurd (eqb-false _ _ n (w .1))) (rw on at (m .mark k h)))
-      here l n k h false e =
-          let off = eqb-false k (v - low) e in
-          rw (getD-set-other marks (v - low) k stamp 0 off, other (low + k) (λ q. off (omega arith))) (m .mark k h)
+      room : low ≤ v → v < high → (v - low) % 65536 < length marks
+      room l h = omega arith
 
-      go : (b : Bool) → ltb v low ≡ b → (not b && eqb (getD marks (v - low) 0) stamp) ≡ false → Marked low stamp (cond b marks (set marks (v - low) stamp)) (passed ++ (v ∷ []))
-      go true p n = record { mark = λ k h. rw (other (low + k) (λ q. omega (arith, ltb-true v low p))) (m .mark k h) }
-      go false p n = record { mark = λ k h. here (ltb-false v low p) n k (rw length-set at h) (eqb k (v - low)) refl }
+      here : low ≤ v → v < high → isMarked (v - low) marks ≡ false → (w : ℕ) → low ≤ w → w < high → (b : Bool) → eqb w v ≡ b
+          → times w (passed ++ (v ∷ [])) ≡ counted (isMarked (w - low) (withMark (v - low) marks))
+      here l h n w k j true e =
+          let on : w ≡ v = eqb-true w v e in
+          rw (on, mark-same (v - low) marks (room l h)) (same ∙ ap (λ (t : ℕ). t + 1) (m .counts v l h ∙ ap counted n))
+      here l h n w k j false e = let off = eqb-false w v e in rw (other w off, mark-other (v - low) marks (room l h) (w - low) (λ q. off (omega arith))) (m .counts w k j)
 
-  -- a value that bears the stamp already now stands there twice
-  pub marked-twice : 0 < stamp → bears low stamp v marks ≡ true → 2 ≤ times v (passed ++ (v ∷ []))
-  marked-twice pos e = go (ltb v low) refl e
+      go : (b : Bool) → served low high v ≡ b → cond b (isMarked (v - low) marks) (leb L v) ≡ false → Marked low high (cond b (withMark (v - low) marks) marks) (passed ++ (v ∷ []))
+      go true p n = let (l, h) = served-of low high v p in record { counts = λ w k j. here l h n w k j (eqb w v) refl }
+      go false p n = record { counts = λ w k j. rw (other w (λ e. false≢true (sym p ∙ served-is low high v (omega arith) (omega arith)))) (m .counts w k j) }
+
+  in-range : Serves L low high marks → showsWrong L low high v marks ≡ false → v < L
+  in-range s n = go (served low high v) refl n
     where
-      found : low ≤ v → getD marks (v - low) 0 ≡ stamp → 2 ≤ times v (passed ++ (v ∷ []))
-      found l e =
-          ⊎-elim
-          (λ (out : length marks ≤ v - low). absurd (omega (arith, List·getD-eq-default marks 0 out)))
-          (λ (h : v - low < length marks). ⊎-elim (λ w. absurd (omega arith)) (λ w. let up : low + (v - low) ≡ v = omega arith in omega (arith, same v refl, rw up at (w .0))) (m .mark (v - low) h))
-          (past (length marks) (v - low))
-
-      go : (b : Bool) → ltb v low ≡ b → (not b && eqb (getD marks (v - low) 0) stamp) ≡ true → 2 ≤ times v (passed ++ (v ∷ []))
-      go true p e = absurd (false≢true e)
-      go false p e = found (ltb-false v low p) (eqb-true _ _ e)
-
-module _ (low stamp : ℕ) (marks passed : List ℕ) (m : Marked low stamp marks passed) where
-  pub marked-once : (v : ℕ) → low ≤ v → v < low + length marks → times v passed ≤ 1
-  marked-once v l h =
-      let up : low + (v - low) ≡ v = omega arith in
-      let r : times (low + (v - low)) passed ≤ 1 = ⊎-elim (λ w. omega arith) (λ w. omega arith) (m .mark (v - low) (omega arith)) in
-      rw up at r
-
-  -- the next stamp is not borne yet
-  pub marked-fresh : Fresh (stamp + 1) marks
-  marked-fresh = record {
-    before = λ k. ⊎-elim
-        (λ (out : length marks ≤ k). omega (arith, List·getD-eq-default marks 0 out))
-        (λ (h : k < length marks). ⊎-elim (λ w. omega arith) (λ w. omega arith) (m .mark k h))
-        (past (length marks) k);
-  }
+      go : (b : Bool) → served low high v ≡ b → cond b (isMarked (v - low) marks) (leb L v) ≡ false → v < L
+      go true p n = omega (arith, served-of low high v p)
+      go false p n = leb-false L v n
 
 -- ---- a pass over a proposed permutation, at its entry number i
-module _ (L : ℕ) (permutation : List ℕ) (i : ℕ) (h : i < length permutation) where
-  pub inside-more : every (λ v. ltb v L) (take i permutation) ≡ true → getD permutation i 0 < L → every (λ v. ltb v L) (take (i + 1) permutation) ≡ true
+module _ (L low high : ℕ) (permutation : List ℕ) (i : ℕ) (h : i < length permutation) (marks : List ℕ) (s : Serves L low high marks) (m : Marked low high marks (take i permutation)) where
+  pub marks-more : showsWrong L low high (getD permutation i 0) marks ≡ false → Marked low high (withValue low high (getD permutation i 0) marks) (take (i + 1) permutation)
+  marks-more n = rw (add-one, take-suc permutation i 0) (marked-more L low high (getD permutation i 0) marks (take i permutation) m s n)
+
+  pub inside-more : showsWrong L low high (getD permutation i 0) marks ≡ false → every (λ v. ltb v L) (take i permutation) ≡ true → every (λ v. ltb v L) (take (i + 1) permutation) ≡ true
   unfolding every
-  inside-more e b = rw (add-one, take-suc permutation i 0, every-append, e, every, lt-ltb (getD permutation i 0) L b)
+  inside-more n e = rw (add-one, take-suc permutation i 0, every-append, e, every, lt-ltb (getD permutation i 0) L (in-range L low high (getD permutation i 0) marks (take i permutation) m s n))
 
-  module _ (low stamp : ℕ) (marks : List ℕ) (m : Marked low stamp marks (take i permutation)) where
-    pub marks-more : bears low stamp (getD permutation i 0) marks ≡ false
-        → Marked low stamp (stamped low stamp (getD permutation i 0) marks) (take (i + 1) permutation)
-    marks-more n = rw (add-one, take-suc permutation i 0) (marked-more low stamp (getD permutation i 0) marks (take i permutation) m n)
+  pub shown-wrong : showsWrong L low high (getD permutation i 0) marks ≡ true → isPermutation L permutation ≡ false
+  unfolding counted
+  shown-wrong t = go (served low high v) refl t
+    where
+      v : ℕ
+      v = getD permutation i 0
 
-    pub repeated : 0 < stamp → getD permutation i 0 < L → bears low stamp (getD permutation i 0) marks ≡ true → isPermutation L permutation ≡ false
-    repeated pos b t =
-        let v = getD permutation i 0 in
-        let two = marked-twice low stamp v marks (take i permutation) m pos t in
-        refuted-twice L v permutation b (omega (arith, rw (← take-suc permutation i 0 h) at two, times-take v (suc i) permutation))
+      go : (b : Bool) → served low high v ≡ b → cond b (isMarked (v - low) marks) (leb L v) ≡ true → isPermutation L permutation ≡ false
+      go true p t =
+          let (l, k) = served-of low high v p in
+          let once : times v (take i permutation) ≡ 1 = m .counts v l k ∙ ap counted t in
+          let whole = rw (← take-suc permutation i 0 h) at (same L low high v marks (take i permutation) m) in
+          refuted-twice L v permutation (omega arith) (omega (arith, whole, times-take v (suc i) permutation))
+      go false p t = refuted-outside L v permutation (leb-true L v t) (at-in permutation i 0 h)
 
 pub wrong-passed : {L low high : ℕ} {permutation : List ℕ} → isPermutation L permutation ≡ false → Passed L low high permutation true
 wrong-passed e = record { refuted = λ t. e; apart = λ f. absurd (true≢false f) }

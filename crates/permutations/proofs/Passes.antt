@@ -1,31 +1,23 @@
 -- Passes over a list of permutations, one after another. Assumes nothing.
-use mathlib.Core.Path.{_≡_, refl, sym, _∙_}
+use mathlib.Core.Path.{_≡_, refl, sym, _∙_, ap}
+use mathlib.Core.Logic.{⊎-elim}
 use mathlib.Core.Bool.{Bool, true, false, not, _||_, true≢false}
 use mathlib.Core.List.{List}
-use Prim.Native.Nat.{ℕ, zero, suc, _+_, _*_, _/_, _%_, _≤_, _<_}
+use Prim.Native.Nat.{ℕ, _+_, _*_, _/_, _%_, _≤_, _<_}
 use native.Mathlib.Nat.{add-zero, zero-mul, suc-mul, mul-le-mul-right, div-add-mod, mul-mod-right, mul-div-right}
 use native.Mathlib.Omega.{arith}
 use borrow.Author.Tests.{ltb-false, eqb-true, not-false, lt-ltb, le-ltb, eq-eqb, ne-eqb}
 use lib.Dec.{ltb, eqb}
-use lib.ListN.{length, getD, replicate, length-drop}
+use lib.ListN.{length, length-drop}
 use lib.Seq.{length-take-le}
 use Rattle.scope.specs.Lists.{every, upward}
 use Rattle.scope.specs.Permutations.{times, isPermutation, block, wrongPermutations}
 use Rattle.scope.specs.Refusals.{mostPermutations}
 use Rattle.scope.proofs.Lists.{upward-are}
 use Rattle.scope.proofs.Members.{second-of, every-of, of-every}
-use Rattle.permutations.specs.Marks.{Fresh, Apart, allTrue}
+use Rattle.permutations.specs.Marks.{Apart, PassedAll, allTrue}
 use Rattle.control.proofs.Sizes.{neither}
-use Rattle.permutations.proofs.Times.{refute, each-once}
-
--- marks that are all 0
-pub zeros-fresh : (n : ℕ) → Fresh 1 (replicate n 0)
-zeros-fresh n = record { before = go n }
-  where
-    go : (n k : ℕ) → getD (replicate n 0) k 0 < 1
-    go zero k = omega arith
-    go (suc n) zero = omega arith
-    go (suc n) (suc k) = go n k
+use Rattle.permutations.proofs.Times.{past, refute, each-once}
 
 -- permutation number q of P lies within the list
 pub block-within : (q P L : ℕ) → q < P → q * L + L ≤ P * L
@@ -47,9 +39,27 @@ module _ (P L : ℕ) (permutations : List ℕ) where
   one-refuted q h e = refute _ (λ t. true≢false (sym (each-true t q h) ∙ e))
 
   -- all values below L stand apart in each, and so all are true permutations
-  pub all-apart : length permutations ≡ P * L → ((q : ℕ) → q < P → Apart L 0 L (block L permutations q)) → allTrue P L permutations ≡ true
+  all-apart : length permutations ≡ P * L → ((q : ℕ) → q < P → Apart L 0 L (block L permutations q)) → allTrue P L permutations ≡ true
   all-apart e apart = of-every _ _ (λ q m. let h : q < P = omega (arith, upward-are 0 P q .0 m) in
       each-once (block L permutations q) L (block-length e q h) (apart q h .inside) (λ v k. apart q h .once v (omega arith) k))
+
+  -- passes for every value tell
+  pub passed-whole : length permutations ≡ P * L → (wrong : Bool) → PassedAll P L 0 L permutations wrong → wrong ≡ not (allTrue P L permutations)
+  passed-whole e true h = sym (ap not (h .refuted refl))
+  passed-whole e false h = sym (ap not (all-apart e (h .apart refl)))
+
+  pub one-wrong : {low high : ℕ} → allTrue P L permutations ≡ false → PassedAll P L low high permutations true
+  one-wrong e = record { refuted = λ t. e; apart = λ f. absurd (true≢false f) }
+
+  -- passes for the values from low to middle - 1, and for those from middle to high - 1
+  pub passed-both : (low middle high : ℕ) {wrong : Bool} → ((p : ℕ) → p < P → Apart L low middle (block L permutations p)) → PassedAll P L middle high permutations wrong → PassedAll P L low high permutations wrong
+  passed-both low middle high first rest = record {
+    refuted = rest .refuted;
+    apart = λ f q h. record {
+      inside = first q h .inside;
+      once = λ v l k. ⊎-elim (λ (m : middle ≤ v). rest .apart f q h .once v m k) (λ (m : v < middle). first q h .once v l m) (past middle v);
+    };
+  }
 
 -- ---- a count n is the product of p and l exactly if p divides it, l times
 pub product : (n p l : ℕ) → n % p ≡ 0 → n / p ≡ l → n ≡ p * l

@@ -1,89 +1,138 @@
 // Whether lists are permutations: "only a true one is accepted". Inside the library. After document 01, refusal 11.
 ghost use mathlib.Core.Path.{_≡_};
-ghost use mathlib.Core.Bool.{true, false, not};
-ghost use Prim.Native.Nat.{_+_, _-_, _*_, _<_, _≤_};
+ghost use mathlib.Core.Bool.{false, not};
+ghost use Prim.Native.Nat.{_-_, _*_, _%_, _<_, _≤_};
 ghost use lib.ListN.{length};
 ghost use Rattle.scope.specs.Permutations.{wrongPermutations};
-ghost use Rattle.permutations.specs.Marks.{bears, stamped, Fresh, Passed, PassedAll, allTrue};
+ghost use Rattle.permutations.specs.Marks.{isMarked, withMark, Unmarked, Serves, showsWrong, withValue, Passed, PassedAll, allTrue};
 
-// Marks v, if it is one of the values from low on that marks serve. Whether it bore the mark already.
-fn mark(v: usize, low: usize, stamp: u16, marks: &mut [u16]) -> bool
-    requires { ⌜ 0 < stamp ⌝ }
-    ensures found { λ r. ⌜ r ≡ bears low stamp v (now (marks .entry)) ⌝ }
-    ensures marks { λ _. ⌜ now (marks .exit) ≡ stamped low stamp v (now (marks .entry)) ⌝ }
+// How many bytes of marks a pass has at most.
+const BYTES: usize = 65536;
+
+// How many values they serve: a mark is a bit.
+const SERVED: usize = 524288;
+
+// Marks the value number n of a pass. Whether it was marked already.
+// Values that follow each other lie in different bytes, so that no mark waits for the one before it.
+fn mark(n: usize, marks: &mut [u8]) -> bool
+    requires { ⌜ (n < 524288) × (n % 65536 < length (now marks)) ⌝ }
+    ensures found { λ r. ⌜ r ≡ isMarked n (now (marks .entry)) ⌝ }
+    ensures marks { λ r. ⌜ (r ≡ false → now (marks .exit) ≡ withMark n (now (marks .entry))) ⌝ }
 {
-    if v < low {
-        return false;
-    }
-    let at = v - low;
-    if marks.len() <= at {
-        return false;
-    }
-    if marks[at] == stamp {
+    let at = n % BYTES;
+    let bit = n / BYTES;
+    if (marks[at] >> bit) % 2 == 1 {
         return true;
     }
-    marks[at] = stamp;
+    marks[at] = marks[at] | (1 << bit);
     false
 }
 
-// Whether a proposed permutation of 0..l-1 is wrong, as far as one pass shows: an entry is out of range, or one of the values that marks serve stands twice.
-fn holds_wrong(permutation: &[usize], l: usize, low: usize, stamp: u16, marks: &mut [u16]) -> bool
-    requires { ⌜ Fresh stamp (now marks) ⌝ }
-    ensures found { λ r. ⌜ Passed l low (low + length (now (marks .entry))) (now (permutation .entry)) r ⌝ }
-    ensures marks { λ r. ⌜ (r ≡ false → Fresh (stamp + 1) (now (marks .exit))) ⌝ }
+// Clears every mark.
+fn clear(marks: &mut [u8])
+    ensures { λ _. ⌜ Unmarked (now (marks .exit)) ⌝ }
 {
+    for k in 0..marks.len() {
+        marks[k] = 0;
+    }
+}
+
+// Whether v shows that a proposed permutation of 0..l-1 is wrong: it is out of range, or one of the values from low to high - 1 and marked already.
+// The difference wraps, so that one comparison tells whether v is one of these values.
+fn shows_wrong(v: usize, l: usize, low: usize, high: usize, marks: &mut [u8]) -> bool
+    requires { ⌜ Serves l low high (now marks) ⌝ }
+    ensures found { λ r. ⌜ r ≡ showsWrong l low high v (now (marks .entry)) ⌝ }
+    ensures marks { λ r. ⌜ (r ≡ false → now (marks .exit) ≡ withValue low high v (now (marks .entry))) ⌝ }
+{
+    let n = std::num::wrapping_sub_usize(v, low);
+    if n < high - low {
+        return mark(n, marks);
+    }
+    l <= v
+}
+
+// Whether a proposed permutation of 0..l-1 is wrong, as far as one pass shows: an entry is out of range, or one of the values from low to high - 1 stands twice.
+fn holds_wrong(permutation: &[usize], l: usize, low: usize, high: usize, marks: &mut [u8]) -> bool
+    requires { ⌜ Serves l low high (now marks) ⌝ }
+    ensures { λ r. ⌜ Passed l low high (now (permutation .entry)) r ⌝ }
+{
+    clear(marks);
     for i in 0..permutation.len() {
-        let v = permutation[i];
-        if v >= l {
-            return true;
-        }
-        if mark(v, low, stamp, marks) {
+        if shows_wrong(permutation[i], l, low, high, marks) {
             return true;
         }
     }
     false
 }
 
-// One pass over p permutations, for the values from low on that marks serve. No mark is cleared: each permutation has a stamp of its own.
-fn pass(permutations: &[usize], p: usize, l: usize, low: usize, marks: &mut [u16]) -> bool
-    requires { ⌜ (p ≤ 999) × (length (now permutations) ≡ p * l) × Fresh 1 (now marks) ⌝ }
-    ensures { λ r. ⌜ PassedAll p l low (low + length (now (marks .entry))) (now (permutations .entry)) r ⌝ }
+// One pass over p permutations, for the values from low to high - 1.
+fn pass(
+    permutations: &[usize],
+    p: usize,
+    l: usize,
+    low: usize,
+    high: usize,
+    marks: &mut [u8],
+) -> bool
+    requires { ⌜ (length (now permutations) ≡ p * l) × Serves l low high (now marks) ⌝ }
+    ensures { λ r. ⌜ PassedAll p l low high (now (permutations .entry)) r ⌝ }
 {
     for q in 0..p {
         let start = q * l;
         let stop = start + l;
-        if holds_wrong(&permutations[start..stop], l, low, (q + 1) as u16, marks) {
+        if holds_wrong(&permutations[start..stop], l, low, high, marks) {
             return true;
         }
     }
     false
 }
 
-// How many values one array of marks serves: every admitted length in one pass, and a longer one in a pass for each 4,096 values.
-const MARKED: usize = 4096;
-
-// One pass, with marks of its own.
-fn any_wrong_from(permutations: &[usize], p: usize, l: usize, low: usize) -> bool
-    requires { ⌜ (p ≤ 999) × (length (now permutations) ≡ p * l) ⌝ }
-    ensures { λ r. ⌜ PassedAll p l low (low + 4096) (now (permutations .entry)) r ⌝ }
+// One pass, with marks of its own: 64 KiB of the stack.
+fn any_wrong_within(permutations: &[usize], p: usize, l: usize, low: usize, high: usize) -> bool
+    requires { ⌜ (length (now permutations) ≡ p * l) × (low ≤ high) × (high ≤ l) × (high - low ≤ 524288) ⌝ }
+    ensures { λ r. ⌜ PassedAll p l low high (now (permutations .entry)) r ⌝ }
 {
-    let mut marks = [0u16; MARKED];
-    pass(permutations, p, l, low, &mut marks)
+    let mut marks = [0u8; BYTES];
+    pass(permutations, p, l, low, high, &mut marks)
 }
 
-// Whether one of p permutations is wrong: passes until every value below l was served.
+// As many passes as the values from low to high - 1 take: half of them, then the rest.
+// A loop would do; a function that calls itself keeps those 64 KiB out of its callers' stack, where the compiler would else put them for every length.
+fn any_wrong_between(permutations: &[usize], p: usize, l: usize, low: usize, high: usize) -> bool
+    requires { ⌜ (length (now permutations) ≡ p * l) × (low ≤ high) × (high ≤ l) ⌝ }
+    ensures { λ r. ⌜ PassedAll p l low high (now (permutations .entry)) r ⌝ }
+{
+    if high - low <= SERVED {
+        return any_wrong_within(permutations, p, l, low, high);
+    }
+    let passes = (high - low) / SERVED + 1;
+    let middle = low + passes / 2 * SERVED;
+    if any_wrong_between(permutations, p, l, low, middle) {
+        return true;
+    }
+    any_wrong_between(permutations, p, l, middle, high)
+}
+
+// The greatest admitted length.
+const ADMITTED: usize = 4096;
+
+// So many bytes are cleared without a call, which for short permutations would take longer than the pass.
+const FEW: usize = 64;
+
+// Whether one of p permutations is wrong. An admitted length takes one pass, in which each value has a byte of its own.
 fn any_wrong(permutations: &[usize], p: usize, l: usize) -> bool
-    requires { ⌜ (p ≤ 999) × (length (now permutations) ≡ p * l) ⌝ }
+    requires { ⌜ length (now permutations) ≡ p * l ⌝ }
     ensures { λ r. ⌜ r ≡ not (allTrue p l (now (permutations .entry))) ⌝ }
 {
-    let mut low = 0;
-    while !any_wrong_from(permutations, p, l, low) {
-        if l - low <= MARKED {
-            return false;
-        }
-        low += MARKED;
+    if l <= FEW {
+        let mut marks = [0u8; FEW];
+        return pass(permutations, p, l, 0, l, &mut marks);
     }
-    true
+    if l <= ADMITTED {
+        let mut marks = [0u8; ADMITTED];
+        return pass(permutations, p, l, 0, l, &mut marks[0..l]);
+    }
+    any_wrong_between(permutations, p, l, 0, l)
 }
 
 const MOST_PERMUTATIONS: usize = 999;

@@ -28,7 +28,7 @@ returns-4 c =
     wrong-count _ _ _ (c .before .before .before .if1 .left) (no-product-times (length (now (a .permutations))) (a .p) (a .l) (omega arith) (c .if4 .taken))
 
 any-wrong-requires : tie.Need-any-wrong-requires
-any-wrong-requires c κs = (omega arith, counted c)
+any-wrong-requires c κs = counted c
 
 returns-5 : tie.Need-returns-5
 returns-5 c = c .any-wrong .ensures ∙ wrong-some _ _ _ (c .before .before .before .before .if1 .left) (counted (c .before))
