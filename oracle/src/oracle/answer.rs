@@ -2,7 +2,7 @@
 
 use crate::{original, rules};
 use protocol::{
-    Cand, Case, Curve, Gain, Guesses, Knn, Line, Order, Perm, Pick, Rel, Search, Tree, F32,
+    Cand, Case, Curve, Gain, Guesses, Knn, Line, Order, Perm, Pick, Rel, Search, Seeded, Tree, F32,
 };
 use std::panic::{catch_unwind, AssertUnwindSafe};
 
@@ -56,6 +56,9 @@ fn values(case: &Case) -> String {
         Case::Search(Search { matrix, segment }) => {
             let found = original::search(matrix, segment);
             Search::answer(found.split, found.gain)
+        }
+        Case::Seeded(Seeded { matrix, m, forbidden, layers }) => {
+            Seeded::answer(&original::seeded(matrix, *m, forbidden, layers))
         }
         Case::Tree(Tree { matrix, m, threshold, forbidden, layers }) => {
             Tree::answer(&original::tree(matrix, *m, *threshold, forbidden, layers))

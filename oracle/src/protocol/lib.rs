@@ -8,6 +8,7 @@ mod lengths;
 mod mean;
 mod neighbours;
 mod room;
+mod segments;
 mod text;
 mod tree;
 mod two_step;
@@ -18,8 +19,9 @@ pub use lengths::{Rel, F32};
 pub use mean::{Cand, Forbidden, Gain, Matrix, Search, Segment};
 pub use neighbours::{Knn, Order};
 pub use room::Slice;
+pub use segments::{Record, Seeded};
 pub use text::{bits, same};
-pub use tree::{Grown, Node, Record, Tree};
+pub use tree::{Grown, Node, Tree};
 pub use two_step::{Guesses, Pick};
 
 use room::Short;
@@ -64,6 +66,7 @@ kinds! {
     b"cand" Cand,
     b"gain" Gain,
     b"search" Search,
+    b"seeded" Seeded,
     b"tree" Tree,
     b"order" Order,
     b"knn" Knn,

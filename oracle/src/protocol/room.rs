@@ -65,6 +65,11 @@ fn most_stored(layers: &[f64]) -> Option<u128> {
     layers.iter().map(count).sum()
 }
 
+/// "T the layers' counts summed": a record for each segment.
+pub(crate) fn seeded(layers: &[f64]) -> Slice {
+    slice(most_stored(layers), RECORDS)
+}
+
 /// "B nodes, T+B records, (B-1)/2 cuts", in the page's order: records, nodes, cuts.
 pub(crate) fn tree(n: usize, m: usize, layers: &[f64]) -> [Slice; 3] {
     let nodes = most_nodes(n, m);

@@ -1,7 +1,8 @@
 //! `tree`.
 
+use crate::segments::counted;
 use crate::text::{all, bits, rows};
-use crate::{fields, room, Fields, Forbidden, Kind, Matrix, Slice};
+use crate::{fields, room, Fields, Forbidden, Kind, Matrix, Record, Slice};
 
 pub struct Tree {
     pub matrix: Matrix,
@@ -28,14 +29,6 @@ impl Kind for Tree {
 }
 
 #[derive(Clone, Copy)]
-pub struct Record {
-    pub start: usize,
-    pub stop: usize,
-    pub split: usize,
-    pub gain: f64,
-}
-
-#[derive(Clone, Copy)]
 pub struct Node {
     pub start: usize,
     pub stop: usize,
@@ -56,13 +49,9 @@ impl Tree {
         let Grown { nodes, cuts, records } = grown;
         let nodes = format!(" nodes {}{}", nodes.len(), all(nodes, node));
         let cuts = format!(" cuts {}{}", cuts.len(), rows(cuts));
-        let records = format!(" records {}{}", records.len(), all(records, record));
+        let records = format!(" records{}", counted(records));
         nodes + &cuts + &records
     }
-}
-
-fn record(record: Record) -> String {
-    format!("{},{},{},{}", record.start, record.stop, record.split, bits(record.gain))
 }
 
 fn node(node: Node) -> String {

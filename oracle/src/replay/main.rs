@@ -8,6 +8,7 @@ mod lent;
 mod mean;
 mod neighbours;
 mod outcome;
+mod segments;
 mod tree;
 mod two_step;
 
@@ -27,6 +28,7 @@ fn called(line: &Line) -> Outcome {
         Case::Cand(case) => case.call(line),
         Case::Gain(case) => case.call(line),
         Case::Search(case) => case.call(line),
+        Case::Seeded(case) => case.call(line),
         Case::Tree(case) => case.call(line),
         Case::Order(case) => case.call(line),
         Case::Knn(case) => case.call(line),

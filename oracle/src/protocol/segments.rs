@@ -1,0 +1,46 @@
+//! `seeded`, and the records that it and `tree` tell.
+
+use crate::text::{all, bits};
+use crate::{fields, room, Fields, Forbidden, Kind, Matrix, Slice};
+
+pub struct Seeded {
+    pub matrix: Matrix,
+    pub m: usize,
+    pub forbidden: Forbidden,
+    pub layers: Vec<f64>,
+}
+
+impl Kind for Seeded {
+    /// N D M F LAYERS CELLS
+    fn read(fields: &mut Fields) -> Option<Self> {
+        let size = fields.size()?;
+        let (m, forbidden) = (fields.number()?, fields.forbidden()?);
+        let layers = fields.values(fields::LAYERS)?;
+        Some(Seeded { matrix: fields.matrix(size)?, m, forbidden, layers })
+    }
+
+    /// Sums, records.
+    fn lends(&self) -> Vec<Slice> {
+        vec![room::sums(&self.matrix), room::seeded(&self.layers)]
+    }
+}
+
+#[derive(Clone, Copy)]
+pub struct Record {
+    pub start: usize,
+    pub stop: usize,
+    pub split: usize,
+    pub gain: f64,
+}
+
+impl Seeded {
+    pub fn answer(records: &[Record]) -> String {
+        counted(records)
+    }
+}
+
+/// How many records, and each.
+pub(crate) fn counted(records: &[Record]) -> String {
+    let record = |r: Record| format!("{},{},{},{}", r.start, r.stop, r.split, bits(r.gain));
+    format!(" {}{}", records.len(), all(records, record))
+}
