@@ -1,7 +1,7 @@
 //! `seeded`, and the records that it and `tree` tell.
 
 use crate::text::{all, bits};
-use crate::{fields, room, Fields, Forbidden, Kind, Matrix, Slice};
+use crate::{Capacities, Fields, Forbidden, Kind, Matrix, Slice};
 
 pub struct Seeded {
     pub matrix: Matrix,
@@ -14,14 +14,13 @@ impl Kind for Seeded {
     /// N D M F LAYERS CELLS
     fn read(fields: &mut Fields) -> Option<Self> {
         let size = fields.size()?;
-        let (m, forbidden) = (fields.number()?, fields.forbidden()?);
-        let layers = fields.values(fields::LAYERS)?;
+        let (m, forbidden, layers) = (fields.number()?, fields.forbidden()?, fields.layers()?);
         Some(Seeded { matrix: fields.matrix(size)?, m, forbidden, layers })
     }
 
     /// Sums, records.
-    fn lends(&self) -> Vec<Slice> {
-        vec![room::sums(&self.matrix), room::seeded(&self.layers)]
+    fn lends(&self, capacities: &Capacities) -> Vec<Slice> {
+        vec![capacities.sums(&self.matrix), capacities.stored(&self.layers)]
     }
 }
 

@@ -2,7 +2,7 @@
 
 use crate::segments::counted;
 use crate::text::{all, bits, rows};
-use crate::{fields, room, Fields, Forbidden, Kind, Matrix, Record, Slice};
+use crate::{Capacities, Fields, Forbidden, Kind, Matrix, Record, Slice};
 
 pub struct Tree {
     pub matrix: Matrix,
@@ -17,14 +17,14 @@ impl Kind for Tree {
     fn read(fields: &mut Fields) -> Option<Self> {
         let size = fields.size()?;
         let (m, threshold) = (fields.number()?, fields.value()?);
-        let (forbidden, layers) = (fields.forbidden()?, fields.values(fields::LAYERS)?);
+        let (forbidden, layers) = (fields.forbidden()?, fields.layers()?);
         Some(Tree { matrix: fields.matrix(size)?, m, threshold, forbidden, layers })
     }
 
     /// Sums, records, nodes, cuts.
-    fn lends(&self) -> Vec<Slice> {
-        let grown = room::tree(self.matrix.n, self.m, &self.layers);
-        [room::sums(&self.matrix)].into_iter().chain(grown).collect()
+    fn lends(&self, capacities: &Capacities) -> Vec<Slice> {
+        let grown = capacities.grown(self.matrix.n, self.m, &self.layers);
+        [capacities.sums(&self.matrix)].into_iter().chain(grown).collect()
     }
 }
 

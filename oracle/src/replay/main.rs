@@ -1,5 +1,5 @@
-//! replay: answers each case of standard input (docs/REPLAY.md) through the functions that hosts
-//! call. What is told of a case is what the library answers; nothing is judged here. A kind's calls
+//! replay [--wide]: answers each case of standard input (docs/REPLAY.md) through the functions that
+//! hosts call. What is told of a case is what the library answers; nothing is judged here. A kind's calls
 //! stand in one of these files, beside the file of that name in ../protocol.
 
 mod curves;
@@ -13,7 +13,7 @@ mod tree;
 mod two_step;
 
 use outcome::Outcome;
-use protocol::{Case, Line};
+use protocol::{Capacities, Case, Line};
 use std::io::{stdin, stdout, BufRead, BufWriter, Result, Write};
 
 /// A kind of case that can be called: lends what the line says, calls, and tells what came of it.
@@ -39,8 +39,8 @@ fn called(line: &Line) -> Outcome {
     }
 }
 
-fn answer(line: &[u8]) -> String {
-    match Line::read(line) {
+fn answer(line: &[u8], capacities: Capacities) -> String {
+    match Line::read(line, capacities) {
         None => "unknown".into(),
         Some(line) if line.too_large => outcome::TOO_LARGE.into(),
         Some(line) => called(&line).answer(&line),
@@ -48,10 +48,16 @@ fn answer(line: &[u8]) -> String {
 }
 
 fn main() -> Result<()> {
+    let arguments: Vec<String> = std::env::args().skip(1).collect();
+    let words: Vec<&str> = arguments.iter().map(String::as_str).collect();
+    let Some(capacities) = Capacities::named(&words) else {
+        eprintln!("replay [--wide]");
+        std::process::exit(2)
+    };
     let (mut input, mut output) = (stdin().lock(), BufWriter::new(stdout().lock()));
     let mut line = vec![];
     while input.read_until(b'\n', &mut line)? > 0 {
-        writeln!(output, "{}", answer(&line))?;
+        writeln!(output, "{}", answer(&line, capacities))?;
         line.clear();
     }
     output.flush()
