@@ -41,7 +41,7 @@ pub fn at_limit(random: &mut Random, kind: &'static str) -> Draft {
         "perm" => {
             let some = random.between(17, 262);
             let sizes = [(999, 16), (999, some), (64, 4_096), (65, 4_096), (63, 4_097)];
-            let (p, length) = random.of(&sizes);
+            let (p, length) = sizes[random.weighted(&[1, 3, 1, 1, 1])];
             permuted(random, &mut draft, p, length, 1);
         }
         _ => (),
@@ -55,7 +55,7 @@ fn large(random: &mut Random, draft: &mut Draft) {
     let few = random.of(&[2, 3, 4, 8]);
     let sizes =
         [(4_096, 1), (4_096, few), (4_095, 7), (1_024, 64), (4_096, 57), (3_676, 64), (4_096, 58)];
-    let (n, d) = sizes[random.weighted(&[8, 14, 2, 2, 1, 1, 1])];
+    let (n, d) = sizes[random.weighted(&[8, 14, 2, 2, 2, 2, 1])];
     matrix(random, draft, n, d);
     (draft.start, draft.stop) = (0, n);
     draft.forbidden = None;
@@ -75,13 +75,13 @@ fn seeded(random: &mut Random, draft: &mut Draft) {
     let d = random.of(&[1, 1, 2, 3]);
     matrix(random, draft, 4_096, d);
     (draft.m, draft.forbidden) = (random.of(&[1, 1, 2]), None);
-    match random.below(8) {
+    match random.below(12) {
         0 => draft.layers = most_layers(random),
-        1..=3 => {
+        1..=4 => {
             let count = random.of(&[6, 20, 40, 64]);
             draft.layers = fine_layers(random, count);
         }
-        4 | 5 => {
+        5 | 6 => {
             draft.layers = vec![0.5, 0.25, random.of(&[0.1, 0.01, 0.001])];
             draft.forbidden = Some(full_list(random, 4_096));
         }
@@ -97,7 +97,7 @@ fn seeded(random: &mut Random, draft: &mut Draft) {
 fn tree(random: &mut Random, draft: &mut Draft) {
     matrix(random, draft, 4_096, 1);
     (draft.m, draft.forbidden, draft.layers) = (random.of(&[1, 7, 2_047]), None, vec![]);
-    match random.below(12) {
+    match random.below(16) {
         0 => (),
         1 | 2 => (draft.cells, draft.value) = (vec![0.0; 4_096], -1.0),
         3 | 4 => {
@@ -109,7 +109,7 @@ fn tree(random: &mut Random, draft: &mut Draft) {
             draft.m = random.of(&[255, 256, 700]);
             draft.layers = vec![SMALLEST_LAYER; random.of(&[32, 33])];
         }
-        7 | 8 => {
+        7..=9 => {
             let count = random.of(&[5, 20, 40, 62, 63]);
             draft.layers = fine_layers(random, count);
             (draft.m, draft.value) = (1, random.of(&[f64::MAX, 40.0, 23.0, 12.0]));
@@ -160,9 +160,13 @@ pub fn permuted(random: &mut Random, draft: &mut Draft, p: u64, length: u64, cou
     draft.max = maximum(random, draft);
 }
 
-/// A case that the others seldom or never come to. A kind that has none gives a case at a limit.
+/// A case that the others seldom or never come to. A kind that has none gives a case at a limit, and
+/// the others do now and then.
 pub fn at_edge(random: &mut Random, kind: &'static str) -> Draft {
     let mut draft = draft(random, kind);
+    if random.one_in(3) {
+        return at_limit(random, kind);
+    }
     match kind {
         "order" | "knn" => {
             let n = random.of(&[100, 200, 513, 1_024, 1_025]);

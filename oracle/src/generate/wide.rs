@@ -58,7 +58,8 @@ fn listed(random: &mut Random, draft: &mut Draft) {
     draft.forbidden = Some(long_list(random, 4_096, pairs));
 }
 
-/// A run of the most columns, the most layers, the most records, or a long list.
+/// A run of the most columns, the most layers, the most records, of a tree also a deep one, or a long
+/// list.
 fn layered(random: &mut Random, draft: &mut Draft) {
     matrix(random, draft, 4_096, 1);
     (draft.m, draft.forbidden, draft.layers) = (1, None, vec![]);
@@ -76,6 +77,9 @@ fn layered(random: &mut Random, draft: &mut Draft) {
             let fine = random.of(&[32, 60, 63, 64]);
             draft.layers = fine_layers(random, fine);
             draft.layers.resize(64, SMALLEST_LAYER);
+            if random.one_in(3) {
+                (draft.cells, draft.value) = (vec![0.0; 4_096], -1.0);
+            }
         }
         _ => {
             listed(random, draft);
