@@ -101,7 +101,7 @@ fn tree(random: &mut Random, draft: &mut Draft) {
         0 => (),
         1 | 2 => (draft.cells, draft.value) = (vec![0.0; 4_096], -1.0),
         3 | 4 => {
-            draft.m = random.of(&[300, 700]);
+            draft.m = random.of(&[1, 40, 300, 700]);
             draft.forbidden = Some(full_list(random, 4_096));
         }
         5 => draft.layers = most_layers(random),
@@ -116,7 +116,7 @@ fn tree(random: &mut Random, draft: &mut Draft) {
         }
         _ => {
             large(random, draft);
-            draft.m = if draft.d < 57 { random.of(&[20, 300, 800]) } else { draft.n / 5 };
+            draft.m = random.of(&[1, 20, 300, 800]);
             draft.layers = random.of(&[&[][..], &[0.5], &[0.3, 0.1]]).into();
         }
     }

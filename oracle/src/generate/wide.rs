@@ -63,13 +63,11 @@ fn listed(random: &mut Random, draft: &mut Draft) {
 fn layered(random: &mut Random, draft: &mut Draft) {
     matrix(random, draft, 4_096, 1);
     (draft.m, draft.forbidden, draft.layers) = (1, None, vec![]);
-    if draft.kind == "tree" {
-        draft.value = random.of(&[f64::MAX, 40.0, 23.0]);
-    }
+    let seldom_cut = random.of(&[f64::MAX, 40.0, 23.0]);
     match random.below(4) {
         0 => {
             columns(random, draft);
-            draft.m = random.of(&[300, 800]);
+            draft.m = random.of(&[1, 20, 300, 800]);
             draft.layers = random.of(&[&[][..], &[0.5], &[0.3, 0.1]]).into();
         }
         1 => draft.layers = vec![SMALLEST_LAYER; random.of(&[33, 64, 64])],
@@ -77,13 +75,15 @@ fn layered(random: &mut Random, draft: &mut Draft) {
             let fine = random.of(&[32, 60, 63, 64]);
             draft.layers = fine_layers(random, fine);
             draft.layers.resize(64, SMALLEST_LAYER);
+            draft.value = seldom_cut;
             if random.one_in(3) {
                 (draft.cells, draft.value) = (vec![0.0; 4_096], -1.0);
             }
         }
         _ => {
             listed(random, draft);
-            (draft.m, draft.layers) = (random.of(&[300, 700]), vec![0.5, 0.3]);
+            (draft.m, draft.value) = (random.of(&[300, 700]), seldom_cut);
+            draft.layers = vec![0.5, 0.3];
         }
     }
 }
