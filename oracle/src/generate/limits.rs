@@ -50,11 +50,11 @@ pub fn at_limit(random: &mut Random, kind: &'static str) -> Draft {
 }
 
 /// A run of the most rows, or of the most columns: 57 columns of 4,096 rows make a line of nearly 4 MB,
-/// and so do 3,676 rows of 64; 58 columns of 4,096 rows one that is longer.
+/// and so do 3,674 rows of 64; 58 columns of 4,096 rows one that is longer.
 fn large(random: &mut Random, draft: &mut Draft) {
     let few = random.of(&[2, 3, 4, 8]);
     let sizes =
-        [(4_096, 1), (4_096, few), (4_095, 7), (1_024, 64), (4_096, 57), (3_676, 64), (4_096, 58)];
+        [(4_096, 1), (4_096, few), (4_095, 7), (1_024, 64), (4_096, 57), (3_674, 64), (4_096, 58)];
     let (n, d) = sizes[random.weighted(&[8, 14, 2, 2, 2, 2, 1])];
     matrix(random, draft, n, d);
     (draft.start, draft.stop) = (0, n);
@@ -72,7 +72,7 @@ fn searched(random: &mut Random, draft: &mut Draft) {
 
 /// Many short segments, the most layers, a long list, or a large run.
 fn seeded(random: &mut Random, draft: &mut Draft) {
-    let d = random.of(&[1, 1, 2, 3]);
+    let d = random.of(&[1, 1, 2, 3, 8]);
     matrix(random, draft, 4_096, d);
     (draft.m, draft.forbidden) = (random.of(&[1, 1, 2]), None);
     match random.below(12) {
@@ -88,7 +88,7 @@ fn seeded(random: &mut Random, draft: &mut Draft) {
         _ => {
             large(random, draft);
             draft.m = random.of(&[1, 7, draft.n / 10]);
-            draft.layers = random.of(&[&[0.5][..], &[0.3, 0.1], &[0.01]]).into();
+            draft.layers = random.of(&[&[0.5][..], &[0.3, 0.1], &[0.01], &[0.5; 64]]).into();
         }
     }
 }
@@ -117,7 +117,7 @@ fn tree(random: &mut Random, draft: &mut Draft) {
         _ => {
             large(random, draft);
             draft.m = random.of(&[1, 20, 300, 800]);
-            draft.layers = random.of(&[&[][..], &[0.5], &[0.3, 0.1]]).into();
+            draft.layers = random.of(&[&[][..], &[0.5], &[0.3, 0.1], &[0.5; 64]]).into();
         }
     }
 }

@@ -68,7 +68,7 @@ fn layered(random: &mut Random, draft: &mut Draft) {
         0 => {
             columns(random, draft);
             draft.m = random.of(&[1, 20, 300, 800]);
-            draft.layers = random.of(&[&[][..], &[0.5], &[0.3, 0.1]]).into();
+            draft.layers = random.of(&[&[][..], &[0.3, 0.1], &[0.5; 64]]).into();
         }
         1 => draft.layers = vec![SMALLEST_LAYER; random.of(&[33, 64, 64])],
         2 => {
