@@ -39,12 +39,26 @@ fn sizes_and_lengths() {
     probe("relative length just below 0.5, n 4096, m", || {
         original::rel(0.499_999_999_999_999_94, 4_096)
     });
+    probe("relative length 0.1, n 0, m", || original::rel(0.1, 0));
+    probe("relative length 0.1, n 4097, m", || original::rel(0.1, 4_097));
+    for (n, m) in [(4, 0), (4_096, 4_097)] {
+        probe(&format!("candidates of the run, n {n}, m {m}"), || {
+            original::cand(&segment(n, m, 0, n))
+        });
+    }
+    probe("candidates of [0,3), n 4097, m 1", || original::cand(&segment(4_097, 1, 0, 3)));
     probe("no rows, nodes", || nodes(&[], 0, -1.0));
     let none = Matrix { n: 3, d: 0, cells: vec![] };
     probe("no columns, gain of [0,3) at 1", || original::gain(&none, 0, 3, 1).0);
     probe("no columns, ordering", || original::order(&none).0);
     probe("n 4097, zero readings, gain of the run at 1", || {
         original::gain(&column(&[0.0; 4_097]), 0, 4_097, 1).0
+    });
+    probe("65 columns, zero readings, gain of [0,3) at 1", || {
+        original::gain(&Matrix { n: 3, d: 65, cells: vec![0.0; 195] }, 0, 3, 1).0
+    });
+    probe("1025 rows, zero readings, entries of the ordering", || {
+        original::order(&column(&[0.0; 1_025])).0.len()
     });
 }
 
@@ -56,7 +70,7 @@ fn nodes(cells: &[f64], d: usize, threshold: f64) -> usize {
 fn thresholds() {
     probe("threshold NaN, rows 0 0 8, nodes", || nodes(&[0.0, 0.0, 8.0], 1, NAN));
     probe("threshold 1, rows 0 0 8, nodes", || nodes(&[0.0, 0.0, 8.0], 1, 1.0));
-    for alpha in [NAN, 0.0, 1.0] {
+    for alpha in [NAN, 0.0, 1.0, -0.5, 2.0] {
         let case = Perm { alpha, ..permuted(3, 1, &[vec![0.0; 3]], 1.0) };
         probe(&format!("alpha {alpha}, p and significance"), || {
             let (_, p, significant) = original::perm(&case);
@@ -89,8 +103,10 @@ fn ends_and_splits() {
     let rows = column(&[0.0, 1.0, 3.0, 7.0]);
     probe("gain of [1,3) at 0", || original::gain(&rows, 1, 3, 0).0);
     probe("gain of [0,2) at 3", || original::gain(&rows, 0, 2, 3).0);
+    probe("gain of [3,1) at 2", || original::gain(&rows, 3, 1, 2).0);
     probe("gain of [2,2) at 2", || original::gain(&rows, 2, 2, 2).0);
     probe("gain of [0,5) at 2, n 4", || original::gain(&rows, 0, 5, 2).0);
+    probe("search of [0,6), n 4, m 1", || original::search(&rows, &segment(4, 1, 0, 6)).split);
     probe("neighbours in [2,2), split 2", || original::knn(&rows, 2, 2, 2));
     probe("neighbours in [1,3), split 0", || original::knn(&rows, 1, 3, 0));
     probe("neighbours in [1,3), split 4", || original::knn(&rows, 1, 3, 4));
@@ -103,7 +119,24 @@ fn picks() {
     probe("pick of [0,3), m 1, guess 0, all NaN", || original::pick(&three, 0, &[NAN; 3]));
     probe("pick of [0,3), m 1, guess 1, curve of 1", || original::pick(&three, 1, &[0.0]));
     probe("pick of [0,3), m 1, guess 1, curve of 4", || original::pick(&three, 1, &[0.0; 4]));
+    let past = segment(4, 1, 0, 6);
+    probe("pick of [0,6), n 4, m 1, guess 1, curve of 6", || original::pick(&past, 1, &[0.0; 6]));
+    probe("guesses of [0,6), n 4, m 1", || original::guesses(&past));
+}
+
+fn curves() {
     probe("curve of no likelihoods", || original::curve(&[], &[]));
+    probe("curve of 4097 likelihoods, entries", || {
+        original::curve(&[0.0; 4_097], &[0.0; 4_097]).len()
+    });
+    for odd in [INF, -INF, NAN] {
+        probe(&format!("curve of l0 {odd} 1 2, l1 0 1 2"), || {
+            original::curve(&[odd, 1.0, 2.0], &[0.0, 1.0, 2.0])
+        });
+        probe(&format!("curve of l0 0 1 2, l1 {odd} 1 2"), || {
+            original::curve(&[0.0, 1.0, 2.0], &[odd, 1.0, 2.0])
+        });
+    }
 }
 
 /// One permutation in place, alpha 0.5, base 0 for every curve.
@@ -137,6 +170,33 @@ fn permutations() {
     probe("L 3, m 1, deltas NaN 0 0, maximum 1, counter", || {
         counter(3, 1, &[vec![NAN, 0.0, 0.0]], 1.0)
     });
+    let zeros = [vec![0.0; 3]];
+    for odd in [INF, -INF, NAN] {
+        let case = Perm { bases: vec![odd], ..permuted(3, 1, &zeros, 1.0) };
+        probe(&format!("L 3, m 1, deltas 0 0 0, base {odd}, maximum 1, counter"), || {
+            original::perm(&case).0
+        });
+    }
+    for odd in [INF, -INF, NAN] {
+        probe(&format!("L 3, m 1, deltas 0 0 0, maximum {odd}, counter"), || {
+            counter(3, 1, &zeros, odd)
+        });
+    }
+    for length in [1, 4] {
+        let unequal = [vec![0.0; 3], vec![0.0; length]];
+        probe(&format!("L 3, m 1, a second curve of {length}, counter"), || {
+            counter(3, 1, &unequal, 1.0)
+        });
+    }
+    probe("L 4097, m 1, counter", || counter(4_097, 1, &[vec![0.0; 4_097]], 1.0));
+    for places in [[0, 0, 2], [3, 0, 1], [0, 1, 3]] {
+        let case = Perm { perms: places.into(), ..permuted(3, 1, &[vec![1.0, 0.0, 0.0]], 2.0) };
+        probe(&format!("L 3, m 1, deltas 1 0 0, maximum 2, places {places:?}, counter"), || {
+            original::perm(&case).0
+        });
+    }
+    let many = Perm { p: 1_000, perms: [0, 1, 2].repeat(1_000), ..permuted(3, 1, &zeros, 0.0) };
+    probe("L 3, m 1, 1000 permutations, counter", || original::perm(&many).0);
 }
 
 /// Stands for a search: keeps what segments it is asked for, and gives up after many.
@@ -206,6 +266,7 @@ fn main() {
     cells_and_pairs();
     ends_and_splits();
     picks();
+    curves();
     permutations();
     layers();
     square();

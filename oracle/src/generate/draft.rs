@@ -47,8 +47,12 @@ fn values(entries: &[f64]) -> String {
 
 impl Draft {
     fn ends(&self) -> String {
-        let forbidden = self.forbidden.as_deref().map_or("-".into(), numbers);
-        format!("{} {forbidden} {} {}", self.m, self.start, self.stop)
+        format!("{} {} {} {}", self.m, self.barred(), self.start, self.stop)
+    }
+
+    /// The forbidden list.
+    fn barred(&self) -> String {
+        self.forbidden.as_deref().map_or("-".into(), numbers)
     }
 
     fn fields(&self) -> String {
@@ -60,9 +64,13 @@ impl Draft {
             "cand" | "guesses" => format!("{n} {}", self.ends()),
             "gain" | "knn" => format!("{n} {d} {start} {stop} {split} {cells}"),
             "search" => format!("{n} {d} {} {cells}", self.ends()),
+            "seeded" => {
+                let (forbidden, layers) = (self.barred(), values(&self.layers));
+                format!("{n} {d} {} {forbidden} {layers} {cells}", self.m)
+            }
             "tree" => {
-                let forbidden = self.forbidden.as_deref().map_or("-".into(), numbers);
-                let (threshold, layers) = (bits(self.value), values(&self.layers));
+                let (forbidden, layers) = (self.barred(), values(&self.layers));
+                let threshold = bits(self.value);
                 format!("{n} {d} {} {threshold} {forbidden} {layers} {cells}", self.m)
             }
             "order" => format!("{n} {d} {cells}"),

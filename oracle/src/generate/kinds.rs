@@ -4,9 +4,9 @@ use crate::draft::Draft;
 use crate::random::Random;
 use crate::values;
 
-pub const KINDS: [&str; 12] = [
-    "rel", "f32", "cand", "gain", "search", "tree", "order", "knn", "curve", "pick", "guesses",
-    "perm",
+pub const KINDS: [&str; 13] = [
+    "rel", "f32", "cand", "gain", "search", "seeded", "tree", "order", "knn", "curve", "pick",
+    "guesses", "perm",
 ];
 
 pub const FAR: [u64; 4] = [u64::MAX, u64::MAX - 1, 1 << 63, 1 << 40];
@@ -203,7 +203,7 @@ fn narrow(random: &mut Random) -> f64 {
 pub fn draft(random: &mut Random, kind: &'static str) -> Draft {
     let n = rows(random);
     let mut draft = Draft { kind, n, ..Draft::default() };
-    if matches!(kind, "gain" | "search" | "tree" | "order" | "knn") {
+    if matches!(kind, "gain" | "search" | "seeded" | "tree" | "order" | "knn") {
         let n = if matches!(kind, "order" | "knn") { n.min(100) } else { n };
         let d = columns(random, n);
         matrix(random, &mut draft, n, d);
@@ -219,6 +219,13 @@ pub fn draft(random: &mut Random, kind: &'static str) -> Draft {
         "gain" | "knn" => {
             ends(random, &mut draft);
             draft.split = random.between(draft.start, draft.stop);
+        }
+        "seeded" => {
+            segment(random, &mut draft);
+            draft.layers = values::layers(random);
+            if draft.layers.is_empty() {
+                draft.layers = values::layers(random);
+            }
         }
         "tree" => {
             segment(random, &mut draft);

@@ -1,28 +1,28 @@
 //! Cases at the limits of document 01, at the capacities of docs/REPLAY.md and past them, and cases
 //! that the others seldom come to. A long list or a wide matrix makes a slow case of a deep tree, so
-//! those that are long in one way are short in another.
+//! those that are long in one way are short in another. What is past the capacities is in wide.rs.
 
 use crate::draft::Draft;
 use crate::kinds::{draft, matrix, maximum, permutations, pick};
 use crate::random::Random;
-use crate::values;
+use crate::values::{self, fine_layers, SMALLEST_LAYER};
 
-/// The most entries of a forbidden list.
-const ENTRIES: u64 = 2_048;
-
-const SMALLEST_LAYER: f64 = 1.0 / 4096.0;
+/// The most pairs of a forbidden list.
+const PAIRS: u64 = 1_024;
 
 /// A case at a limit of document 01, or of the page's capacities.
 pub fn at_limit(random: &mut Random, kind: &'static str) -> Draft {
     let mut draft = draft(random, kind);
     match kind {
-        "gain" | "search" => wide(random, &mut draft),
+        "gain" | "search" => searched(random, &mut draft),
+        "seeded" => seeded(random, &mut draft),
         "tree" => tree(random, &mut draft),
         "order" | "knn" => {
-            let n = random.of(&[512, 1_023, 1_024]);
-            let d = random.of(&[1, 1, 3, 64]);
+            let some = random.between(513, 1_022);
+            let n = random.of(&[512, some, 1_023, 1_024]);
+            let d = random.of(&[1, 1, 2, 3, 8, 64]);
             matrix(random, &mut draft, n, d);
-            (draft.start, draft.stop, draft.split) = (0, n, n / 2);
+            (draft.start, draft.stop, draft.split) = (random.of(&[0, 0, n / 5]), n, n / 2);
         }
         "curve" => {
             let length = random.of(&[4_096, 4_097, 4_098]);
@@ -30,71 +30,119 @@ pub fn at_limit(random: &mut Random, kind: &'static str) -> Draft {
         }
         "cand" | "guesses" | "pick" => {
             (draft.n, draft.start, draft.stop) = (4_096, 0, 4_096);
-            draft.m = random.of(&[1, 2_047, 2_048, 4_096]);
+            draft.m = random.of(&[1, 5, 300, 2_047, 2_048, 4_096]);
             if random.one_in(2) {
-                draft.forbidden = Some(long_list(random, 4_096));
+                draft.forbidden = Some(full_list(random, 4_096));
             }
             if kind == "pick" {
                 pick(random, &mut draft);
             }
         }
         "perm" => {
-            let (p, length) = random.of(&[(999, 16), (64, 4_096), (65, 4_096), (63, 4_097)]);
-            (draft.p, draft.m) = (p, random.of(&[1, 7]));
-            draft.curves = vec![values::values(random, length)];
-            draft.bases = vec![0.0];
-            permutations(random, &mut draft, length);
-            draft.max = maximum(random, &draft);
+            let some = random.between(17, 262);
+            let sizes = [(999, 16), (999, some), (64, 4_096), (65, 4_096), (63, 4_097)];
+            let (p, length) = sizes[random.weighted(&[1, 3, 1, 1, 1])];
+            permuted(random, &mut draft, p, length, 1);
         }
         _ => (),
     }
     draft
 }
 
-/// A run of the most rows, or of the most columns; 57 columns of 4,096 rows make a line of nearly 4 MB,
-/// 58 one that is longer.
-fn wide(random: &mut Random, draft: &mut Draft) {
-    let sizes = [(4_096, 1), (4_095, 7), (1_024, 64), (4_096, 57), (4_096, 58)];
-    let (n, d) = sizes[random.weighted(&[24, 6, 3, 1, 1])];
+/// A run of the most rows, or of the most columns: 57 columns of 4,096 rows make a line of nearly 4 MB,
+/// and so do 3,674 rows of 64; 58 columns of 4,096 rows one that is longer.
+fn large(random: &mut Random, draft: &mut Draft) {
+    let few = random.of(&[2, 3, 4, 8]);
+    let sizes =
+        [(4_096, 1), (4_096, few), (4_095, 7), (1_024, 64), (4_096, 57), (3_674, 64), (4_096, 58)];
+    let (n, d) = sizes[random.weighted(&[8, 14, 2, 2, 2, 2, 1])];
     matrix(random, draft, n, d);
-    (draft.start, draft.stop, draft.m) = (0, n, random.of(&[1, 7, n / 2 - 1]));
-    draft.split = random.between(0, n);
-    draft.forbidden = random.one_in(2).then(|| long_list(random, n));
+    (draft.start, draft.stop) = (0, n);
+    draft.forbidden = None;
 }
 
-/// A deep tree, one over a long list, one with the most layers, or a wide one.
-fn tree(random: &mut Random, draft: &mut Draft) {
-    matrix(random, draft, 4_096, 1);
-    (draft.m, draft.forbidden, draft.layers) = (random.of(&[1, 7, 2_047]), None, vec![]);
-    match random.below(8) {
-        0 => (),
-        1 | 2 => (draft.cells, draft.value) = (vec![0.0; 4_096], -1.0),
-        3 | 4 => {
-            draft.m = random.of(&[300, 700]);
-            draft.forbidden = Some(long_list(random, 4_096));
+fn searched(random: &mut Random, draft: &mut Draft) {
+    large(random, draft);
+    draft.m = random.of(&[1, 7, draft.n / 2 - 1]);
+    draft.split = random.between(0, draft.n);
+    if draft.d < 57 && random.one_in(2) {
+        draft.forbidden = Some(full_list(random, draft.n));
+    }
+}
+
+/// Many short segments, the most layers, a long list, or a large run.
+fn seeded(random: &mut Random, draft: &mut Draft) {
+    let d = random.of(&[1, 1, 2, 3, 8]);
+    matrix(random, draft, 4_096, d);
+    (draft.m, draft.forbidden) = (random.of(&[1, 1, 2]), None);
+    match random.below(12) {
+        0 => draft.layers = most_layers(random),
+        1..=4 => {
+            let count = random.of(&[6, 20, 40, 64]);
+            draft.layers = fine_layers(random, count);
         }
-        5 => draft.layers = random.of(&[&[SMALLEST_LAYER; 3][..], &[0.5; 64], &[0.5; 101]]).into(),
-        6 => {
-            draft.m = random.of(&[255, 256, 700]);
-            draft.layers = vec![SMALLEST_LAYER; random.of(&[32, 33])];
+        5 | 6 => {
+            draft.layers = vec![0.5, 0.25, random.of(&[0.1, 0.01, 0.001])];
+            draft.forbidden = Some(full_list(random, 4_096));
         }
         _ => {
-            let (n, d) = random.of(&[(4_095, 7), (1_024, 64), (4_096, 57)]);
-            matrix(random, draft, n, d);
-            draft.m = n / 5;
+            large(random, draft);
+            draft.m = random.of(&[1, 7, draft.n / 10]);
+            draft.layers = random.of(&[&[0.5][..], &[0.3, 0.1], &[0.01], &[0.5; 64]]).into();
         }
     }
 }
 
-/// Pairs up to the capacity of the list, now and then one past it: seams of every few rows, stretches
-/// in any order that overlap, pairs that bar nothing, and mostly some row is left.
-fn long_list(random: &mut Random, n: u64) -> Vec<u64> {
-    let pairs = random.of(&[400, ENTRIES / 2, ENTRIES / 2, ENTRIES / 2, ENTRIES / 2 + 1]);
+/// A deep tree, one over a long list, one with the most layers or many short segments, or a large one.
+fn tree(random: &mut Random, draft: &mut Draft) {
+    matrix(random, draft, 4_096, 1);
+    (draft.m, draft.forbidden, draft.layers) = (random.of(&[1, 7, 2_047]), None, vec![]);
+    match random.below(16) {
+        0 => (),
+        1 | 2 => (draft.cells, draft.value) = (vec![0.0; 4_096], -1.0),
+        3 | 4 => {
+            draft.m = random.of(&[1, 40, 300, 700]);
+            draft.forbidden = Some(full_list(random, 4_096));
+        }
+        5 => draft.layers = most_layers(random),
+        6 => {
+            draft.m = random.of(&[255, 256, 700]);
+            draft.layers = vec![SMALLEST_LAYER; random.of(&[32, 33])];
+        }
+        7..=9 => {
+            let count = random.of(&[5, 20, 40, 62, 63]);
+            draft.layers = fine_layers(random, count);
+            (draft.m, draft.value) = (1, random.of(&[f64::MAX, 40.0, 23.0, 12.0]));
+        }
+        _ => {
+            large(random, draft);
+            draft.m = random.of(&[1, 20, 300, 800]);
+            draft.layers = random.of(&[&[][..], &[0.5], &[0.3, 0.1], &[0.5; 64]]).into();
+        }
+    }
+}
+
+fn most_layers(random: &mut Random) -> Vec<f64> {
+    random.of(&[&[SMALLEST_LAYER; 3][..], &[SMALLEST_LAYER; 32], &[0.5; 64], &[0.5; 101]]).into()
+}
+
+/// A list up to its capacity, now and then one pair past it.
+fn full_list(random: &mut Random, n: u64) -> Vec<u64> {
+    let some = random.between(129, PAIRS);
+    let pairs = random.of(&[some, PAIRS, PAIRS, PAIRS, PAIRS + 1]);
+    long_list(random, n, pairs)
+}
+
+/// So many pairs: seams of every few rows, stretches in any order that overlap, pairs that bar nothing,
+/// of more than 2,000 the most; mostly some row is left.
+pub fn long_list(random: &mut Random, n: u64, pairs: u64) -> Vec<u64> {
     let longest = random.of(&[1, 2, 4, 30]);
+    let seldom = (pairs / PAIRS).max(1);
     let mut list: Vec<[u64; 2]> = (0..pairs)
         .map(|place| {
             let a = if longest < 4 { place * n / pairs } else { random.below(n) };
-            [a, a + random.below(longest + 1)]
+            let long = if random.one_in(seldom) { longest } else { 0 };
+            [a, a + random.below(long + 1)]
         })
         .collect();
     if random.one_in(2) {
@@ -103,9 +151,22 @@ fn long_list(random: &mut Random, n: u64) -> Vec<u64> {
     list.concat()
 }
 
-/// A case that the others seldom or never come to. A kind that has none gives a case at a limit.
+/// P permutations of `count` curves of a length.
+pub fn permuted(random: &mut Random, draft: &mut Draft, p: u64, length: u64, count: u64) {
+    (draft.p, draft.m) = (p, random.of(&[1, 7, (length - 1) / 2]).min((length - 1) / 2));
+    draft.curves = (0..count).map(|_| values::values(random, length)).collect();
+    draft.bases = values::values(random, count);
+    permutations(random, draft, length);
+    draft.max = maximum(random, draft);
+}
+
+/// A case that the others seldom or never come to. A kind that has none gives a case at a limit, and
+/// the others do now and then.
 pub fn at_edge(random: &mut Random, kind: &'static str) -> Draft {
     let mut draft = draft(random, kind);
+    if random.one_in(3) {
+        return at_limit(random, kind);
+    }
     match kind {
         "order" | "knn" => {
             let n = random.of(&[100, 200, 513, 1_024, 1_025]);
@@ -128,15 +189,12 @@ pub fn at_edge(random: &mut Random, kind: &'static str) -> Draft {
 /// Permutations up to P's limit or past it, or curves past those that are lent.
 fn many(random: &mut Random, draft: &mut Draft) {
     let few = random.of(&[3, 5, 7, 16]);
+    let some = random.between(17, 262);
     let sizes =
-        [(999, few), (999, few), (1_000, few), (5, 3_277), (2, few), (999, 262), (999, 263)];
-    let (p, length) = sizes[random.weighted(&[8, 8, 8, 8, 8, 1, 1])];
+        [(999, few), (999, some), (1_000, few), (5, 3_277), (2, few), (999, 262), (999, 263)];
+    let (p, length) = sizes[random.weighted(&[8, 8, 8, 8, 8, 2, 1])];
     let count = if p == 2 { random.between(4, 6) } else { random.between(1, 3) };
-    (draft.p, draft.m) = (p, random.between(1, (few - 1) / 2));
-    draft.curves = (0..count).map(|_| values::values(random, length)).collect();
-    draft.bases = values::values(random, count);
-    permutations(random, draft, length);
-    draft.max = maximum(random, draft);
+    permuted(random, draft, p, length, count);
     match random.below(3) {
         0 if count > 3 => draft.curves[3][0] = values::not_finite(random),
         1 if count > 3 => draft.curves[3] = vec![0.0; random.of(&[1, 4_097, 4_098])],

@@ -8,6 +8,7 @@ mod limits;
 mod random;
 mod spoil;
 mod values;
+mod wide;
 
 use kinds::KINDS;
 use random::Random;
@@ -16,12 +17,16 @@ use std::io::Write;
 /// Sorts that may be named beside the kinds: of the kinds named, or of any where none is.
 const LIMIT: &str = "limit";
 const EDGE: &str = "edge";
+const WIDE: &str = "wide";
 const UNKNOWN: &str = "unknown";
 
 fn line(random: &mut Random, sort: &'static str, kinds: &[&'static str]) -> String {
     let kind = if KINDS.contains(&sort) { sort } else { random.of(kinds) };
     if sort == EDGE {
         return limits::at_edge(random, kind).line();
+    }
+    if sort == WIDE {
+        return wide::at_wide(random, kind).line();
     }
     if sort == LIMIT || random.one_in(4_000) {
         return limits::at_limit(random, kind).line();
@@ -50,12 +55,13 @@ fn case(random: &mut Random, kind: &'static str) -> String {
 
 fn main() {
     let arguments: Vec<String> = std::env::args().skip(1).collect();
-    let sorts = KINDS.into_iter().chain([LIMIT, EDGE, UNKNOWN]);
+    let sorts = KINDS.into_iter().chain([LIMIT, EDGE, WIDE, UNKNOWN]);
     let known = |name: &String| sorts.clone().find(|sort| sort == name);
     let number = |place: usize| arguments.get(place).and_then(|word| word.parse::<u64>().ok());
     let named: Option<Vec<&'static str>> = arguments.iter().skip(2).map(known).collect();
     let (Some(seed), Some(count), Some(named)) = (number(0), number(1), named) else {
-        eprintln!("generate SEED COUNT [KIND..], of {} {LIMIT} {EDGE} {UNKNOWN}", KINDS.join(" "));
+        let kinds = KINDS.join(" ");
+        eprintln!("generate SEED COUNT [KIND..], of {kinds} {LIMIT} {EDGE} {WIDE} {UNKNOWN}");
         std::process::exit(2)
     };
     let sorts = if named.is_empty() { KINDS.to_vec() } else { named };

@@ -12,6 +12,7 @@ pub fn numbers(kind: &str) -> &'static [u64] {
         "cand" => &[1, 2, 5, 7, 8, 9, 10],
         "gain" | "knn" => &[1, 4, 7, 8],
         "search" => &[1, 2, 4, 5, 7, 8, 9, 10],
+        "seeded" => &[1, 2, 4, 5, 6, 6, 7, 7],
         "tree" => &[1, 2, 3, 4, 5, 6, 6, 7, 7],
         "order" => &[1, 4, 7],
         "curve" => &[4, 7, 12],
@@ -26,7 +27,7 @@ pub fn numbers(kind: &str) -> &'static [u64] {
 pub fn slices(kind: &str) -> u64 {
     match kind {
         "cand" | "gain" | "search" | "curve" => 1,
-        "order" => 2,
+        "order" | "seeded" => 2,
         "knn" => 3,
         "tree" => 4,
         _ => 0,

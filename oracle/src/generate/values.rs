@@ -106,7 +106,7 @@ pub fn beside(random: &mut Random, value: f64) -> f64 {
     })
 }
 
-const SMALLEST: f64 = 1.0 / 4096.0;
+pub const SMALLEST_LAYER: f64 = 1.0 / 4096.0;
 
 /// Layer values, mostly few and not small, since a value v makes about 2/v segments.
 pub fn layers(random: &mut Random) -> Vec<f64> {
@@ -135,14 +135,24 @@ pub fn layers(random: &mut Random) -> Vec<f64> {
             .map(|value| value.min(1.0 - f64::EPSILON))
             .collect(),
         5 => {
-            let near = beside(random, SMALLEST).max(SMALLEST);
-            vec![random.of(&[SMALLEST, near, 0.001, 0.0003])]
+            let near = beside(random, SMALLEST_LAYER).max(SMALLEST_LAYER);
+            vec![random.of(&[SMALLEST_LAYER, near, 0.001, 0.0003])]
         }
         _ => (0..64).map(|_| random.of(&[0.5, 0.25, 0.9])).collect(),
     }
 }
 
+/// Layers of many short segments of 4,096 rows. Of segments in which m = 1 leaves a candidate a layer
+/// has 4,095 at most, with a value just above 2/4096; nearer to that the last one is cut short.
+pub fn fine_layers(random: &mut Random, count: usize) -> Vec<f64> {
+    let least = 2.0 * SMALLEST_LAYER * (1.0 + 2.0_f64.powi(random.of(&[-12, -12, -22])));
+    let spread = random.of(&[0.0, 0.0, 0.5, 6.0]) * SMALLEST_LAYER;
+    let value =
+        |random: &mut Random| least + spread * (random.bits() >> 11) as f64 / (1_u64 << 53) as f64;
+    (0..count).map(|_| value(random)).collect()
+}
+
 pub fn bad_layer(random: &mut Random) -> f64 {
-    let below = f64::from_bits(SMALLEST.to_bits() - 1);
+    let below = f64::from_bits(SMALLEST_LAYER.to_bits() - 1);
     random.of(&[1.0, 2.0, 0.0, -0.0, -0.5, below, 5e-324, f64::INFINITY, f64::NAN, 1.0 + 1e-15])
 }

@@ -2,7 +2,8 @@
 
 use crate::{original, rules};
 use protocol::{
-    Cand, Case, Curve, Gain, Guesses, Knn, Line, Order, Perm, Pick, Rel, Search, Tree, F32,
+    Cand, Capacities, Case, Curve, Gain, Guesses, Knn, Line, Order, Perm, Pick, Rel, Search,
+    Seeded, Tree, F32,
 };
 use std::panic::{catch_unwind, AssertUnwindSafe};
 
@@ -13,9 +14,9 @@ pub struct Answer {
 }
 
 /// The answer to a line, or why the Rust and the rules don't agree about it.
-pub fn answer(line: &[u8]) -> Result<Answer, String> {
+pub fn answer(line: &[u8], capacities: Capacities) -> Result<Answer, String> {
     let from_line = |text: &str| Ok(Answer { text: text.into(), source: "line" });
-    let Some(line) = Line::read(line) else { return from_line("unknown") };
+    let Some(line) = Line::read(line, capacities) else { return from_line("unknown") };
     if line.too_large {
         return from_line("too large");
     }
@@ -56,6 +57,9 @@ fn values(case: &Case) -> String {
         Case::Search(Search { matrix, segment }) => {
             let found = original::search(matrix, segment);
             Search::answer(found.split, found.gain)
+        }
+        Case::Seeded(Seeded { matrix, m, forbidden, layers }) => {
+            Seeded::answer(&original::seeded(matrix, *m, forbidden, layers))
         }
         Case::Tree(Tree { matrix, m, threshold, forbidden, layers }) => {
             Tree::answer(&original::tree(matrix, *m, *threshold, forbidden, layers))

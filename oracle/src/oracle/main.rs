@@ -1,5 +1,5 @@
-//! oracle [--source]: answers each case of standard input (docs/REPLAY.md) with the original Rust;
-//! `--source` adds where the answer comes from: rust, rules or line.
+//! oracle [--source] [--wide]: answers each case of standard input (docs/REPLAY.md) with the original
+//! Rust; `--source` adds where the answer comes from: rust, rules or line.
 //! oracle deck: the text program, standard input to standard output.
 //! oracle decks: the same for many decks, each deck and each sheet with its length (u64) before it.
 
@@ -8,17 +8,18 @@ mod deck;
 mod original;
 mod rules;
 
+use protocol::Capacities;
 use std::io::{stdin, stdout, BufRead, BufWriter, Read, Result, Write};
 use std::process::exit;
 
 /// A tree of 4,096 rows can be thousands deep, and the Rust grows it by calling itself.
 const STACK: usize = 1 << 30;
 
-fn answers(with_source: bool) -> Result<()> {
+fn answers(with_source: bool, capacities: Capacities) -> Result<()> {
     let (mut input, mut output) = (stdin().lock(), BufWriter::new(stdout().lock()));
     let mut line = vec![];
     while input.read_until(b'\n', &mut line)? > 0 {
-        let answer = answer::answer(&line).unwrap_or_else(|why| {
+        let answer = answer::answer(&line, capacities).unwrap_or_else(|why| {
             eprintln!("oracle: {why}: {}", String::from_utf8_lossy(&line).trim_end());
             exit(1)
         });
@@ -53,16 +54,18 @@ fn decks() -> Result<()> {
 
 fn run() -> Result<()> {
     let arguments: Vec<String> = std::env::args().skip(1).collect();
-    match arguments.iter().map(String::as_str).collect::<Vec<_>>()[..] {
-        [] => answers(false),
-        ["--source"] => answers(true),
-        ["deck"] => deck(),
-        ["decks"] => decks(),
-        _ => {
-            eprintln!("oracle [--source] | oracle deck | oracle decks");
-            exit(2)
-        }
-    }
+    let words: Vec<&str> = arguments.iter().map(String::as_str).collect();
+    let (with_source, rest) = match &words[..] {
+        ["deck"] => return deck(),
+        ["decks"] => return decks(),
+        ["--source", rest @ ..] => (true, rest),
+        rest => (false, rest),
+    };
+    let Some(capacities) = Capacities::named(rest) else {
+        eprintln!("oracle [--source] [--wide] | oracle deck | oracle decks");
+        exit(2)
+    };
+    answers(with_source, capacities)
 }
 
 fn main() {

@@ -145,13 +145,29 @@ pub fn search(matrix: &Matrix, segment: &Segment) -> Record {
     record(&found.expect("an admitted segment has candidates"))
 }
 
+/// The segments of the lent layers, searched. "No layers means BS."
+fn segmentation(optimizer: &dyn Optimizer) -> Segmentation<'_> {
+    let kind = match optimizer.control().lent_layers.is_empty() {
+        true => SegmentationType::BS,
+        false => SegmentationType::SBS,
+    };
+    Segmentation::new(kind, optimizer)
+}
+
+/// The records stored before a tree is grown.
+pub fn seeded(matrix: &Matrix, m: usize, no: &Forbidden, layers: &[f64]) -> Vec<Record> {
+    let (view, mut control) = (view(matrix), control(m, no));
+    control.lent_layers = layers.to_vec();
+    let grid = GridSearch { gain: ChangeInMean::new(&view, &control) };
+    segmentation(&grid).segments.iter().map(record).collect()
+}
+
 pub fn tree(matrix: &Matrix, m: usize, threshold: f64, no: &Forbidden, layers: &[f64]) -> Grown {
     let view = view(matrix);
     let mut control = control(m, no).with_minimal_gain_to_split(Some(threshold));
     control.lent_layers = layers.to_vec();
     let grid = GridSearch { gain: ChangeInMean::new(&view, &control) };
-    let kind = if layers.is_empty() { SegmentationType::BS } else { SegmentationType::SBS };
-    let mut segmentation = Segmentation::new(kind, &grid);
+    let mut segmentation = segmentation(&grid);
     let mut tree = BinarySegmentationTree::new(&view);
     tree.grow(&mut segmentation);
     let result = BinarySegmentationResult::from_tree(tree);
@@ -274,6 +290,7 @@ pub fn own(case: &Case) -> Vec<(usize, bool)> {
             let set = || Control::default().with_model_selection_alpha(*alpha);
             vec![(3, catch_unwind(set).is_err())]
         }
+        Case::Seeded(case) => own_list(&case.forbidden),
         Case::Tree(case) => own_list(&case.forbidden),
         Case::Cand(Cand { segment })
         | Case::Search(Search { segment, .. })

@@ -3,7 +3,7 @@
 //! refusals, nor from the code that the oracle judges. Rule by rule, in number order.
 
 use protocol::{
-    Cand, Case, Curve, Forbidden, Gain, Guesses, Knn, Matrix, Perm, Pick, Rel, Segment, Tree,
+    Cand, Case, Curve, Forbidden, Gain, Guesses, Knn, Matrix, Perm, Pick, Rel, Segment,
 };
 
 const MOST_ROWS: usize = 4_096;
@@ -199,13 +199,9 @@ fn measured(verdict: Verdict, cells: &Matrix, most: usize) -> Verdict {
     verdict.rule(1, matrix(cells, most)).rule(4, not_finite(&cells.cells))
 }
 
-/// 2, 3, 5 and 6 of a tree's settings.
-fn grown(verdict: Verdict, case: &Tree) -> Verdict {
-    verdict
-        .rule(2, minimal_length(case.m))
-        .rule(3, threshold(case.threshold))
-        .rule(5, bad_list(&case.forbidden))
-        .rule(6, bad_layers(&case.layers))
+/// 2, 5 and 6 of what segments are seeded by. A tree's threshold is judged beside them, by 3.
+fn seeded(verdict: Verdict, m: usize, forbidden: &Forbidden, layers: &[f64]) -> Verdict {
+    verdict.rule(2, minimal_length(m)).rule(5, bad_list(forbidden)).rule(6, bad_layers(layers))
 }
 
 fn picked(verdict: Verdict, case: &Pick) -> Verdict {
@@ -229,7 +225,15 @@ pub fn judge(case: &Case, short: bool) -> Verdict {
         Case::Gain(Gain { matrix, start, stop, split }) => measured(verdict, matrix, MOST_ROWS)
             .rule(8, outside(matrix.n, *start, *stop) || split_outside(*start, *stop, *split)),
         Case::Search(case) => searched(measured(verdict, &case.matrix, MOST_ROWS), &case.segment),
-        Case::Tree(case) => grown(measured(verdict, &case.matrix, MOST_ROWS), case),
+        Case::Seeded(case) => {
+            let verdict = measured(verdict, &case.matrix, MOST_ROWS);
+            seeded(verdict, case.m, &case.forbidden, &case.layers)
+        }
+        Case::Tree(case) => {
+            let verdict = measured(verdict, &case.matrix, MOST_ROWS);
+            seeded(verdict, case.m, &case.forbidden, &case.layers)
+                .rule(3, threshold(case.threshold))
+        }
         Case::Order(case) => measured(verdict, &case.matrix, MOST_NEIGHBOUR_ROWS),
         Case::Knn(Knn { matrix, start, stop, split }) => {
             measured(verdict, matrix, MOST_NEIGHBOUR_ROWS)

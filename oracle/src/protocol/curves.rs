@@ -1,8 +1,7 @@
 //! `curve` and `perm`.
 
-use crate::fields::{CURVE, PERMUTATIONS};
 use crate::text::{bits, values};
-use crate::{room, Fields, Kind, Slice};
+use crate::{Capacities, Fields, Kind, Slice};
 
 pub struct Curve {
     pub l0: Vec<f64>,
@@ -12,12 +11,12 @@ pub struct Curve {
 impl Kind for Curve {
     /// L0 L1
     fn read(fields: &mut Fields) -> Option<Self> {
-        Some(Curve { l0: fields.values(CURVE)?, l1: fields.values(CURVE)? })
+        Some(Curve { l0: fields.curve()?, l1: fields.curve()? })
     }
 
     /// Output.
-    fn lends(&self) -> Vec<Slice> {
-        vec![room::curve(self.l0.len())]
+    fn lends(&self, capacities: &Capacities) -> Vec<Slice> {
+        vec![capacities.curve(self.l0.len())]
     }
 }
 
@@ -44,8 +43,8 @@ impl Kind for Perm {
         let (m, alpha) = (fields.number()?, fields.value()?);
         let (p, max, k) = (fields.number()?, fields.value()?, fields.number()?);
         let bases = fields.counted(k)?;
-        let deltas = (0..k).map(|_| fields.values(CURVE)).collect::<Option<_>>()?;
-        let perms = fields.numbers(PERMUTATIONS)?;
+        let deltas = (0..k).map(|_| fields.curve()).collect::<Option<_>>()?;
+        let perms = fields.permutations()?;
         Some(Perm { m, alpha, p, max, k, bases, deltas, perms })
     }
 }

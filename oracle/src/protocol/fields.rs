@@ -1,26 +1,20 @@
 //! The fields of a line, parted by single blanks, read one after another.
 
-use crate::{Forbidden, Matrix, Segment};
+use crate::{Capacities, Forbidden, Matrix, Segment};
 use std::slice::Split;
 
 // A number of the page has 64 bits.
 const _: () = assert!(usize::BITS == 64);
 
-/// Capacities of lists.
-const CELLS: usize = 262_144;
-const FORBIDDEN: usize = 2_048;
-pub(crate) const LAYERS: usize = 100;
-pub(crate) const CURVE: usize = 4_097;
-pub(crate) const PERMUTATIONS: usize = 262_144;
-
 pub struct Fields<'a> {
     words: Split<'a, u8, fn(&u8) -> bool>,
+    capacities: Capacities,
     passed: bool,
 }
 
 impl<'a> Fields<'a> {
-    pub(crate) fn of(words: &'a [u8]) -> Self {
-        Fields { words: words.split(|byte| *byte == b' '), passed: false }
+    pub(crate) fn of(words: &'a [u8], capacities: Capacities) -> Self {
+        Fields { words: words.split(|byte| *byte == b' '), capacities, passed: false }
     }
 
     /// Whether a list that was read passes its capacity.
@@ -61,12 +55,19 @@ impl<'a> Fields<'a> {
         self.entries(count, value)
     }
 
-    pub fn values(&mut self, capacity: usize) -> Option<Vec<f64>> {
-        self.list(capacity, value)
+    /// LAYERS
+    pub fn layers(&mut self) -> Option<Vec<f64>> {
+        self.list(self.capacities.layers, value)
     }
 
-    pub fn numbers(&mut self, capacity: usize) -> Option<Vec<usize>> {
-        self.list(capacity, number)
+    /// L0, L1, DELTAS or CURVE
+    pub fn curve(&mut self) -> Option<Vec<f64>> {
+        self.list(self.capacities.curve, value)
+    }
+
+    /// PERMS
+    pub fn permutations(&mut self) -> Option<Vec<usize>> {
+        self.list(self.capacities.permutations, number)
     }
 
     /// F
@@ -75,7 +76,7 @@ impl<'a> Fields<'a> {
             self.word();
             return Some(None);
         }
-        self.numbers(FORBIDDEN).map(Some)
+        self.list(self.capacities.forbidden, number).map(Some)
     }
 
     /// M F START STOP, of a run of n rows.
@@ -96,7 +97,7 @@ impl<'a> Fields<'a> {
 
     /// CELLS
     pub fn matrix(&mut self, (n, d): (usize, usize)) -> Option<Matrix> {
-        Some(Matrix { n, d, cells: self.values(CELLS)? })
+        Some(Matrix { n, d, cells: self.list(self.capacities.cells, value)? })
     }
 }
 

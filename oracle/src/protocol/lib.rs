@@ -2,24 +2,28 @@
 //! from its line, the room that it lends, the words of its answer. A kind of case has its struct in
 //! one of these files and its row in the table below. Nothing here judges a case.
 
+mod capacities;
 mod curves;
 mod fields;
 mod lengths;
 mod mean;
 mod neighbours;
 mod room;
+mod segments;
 mod text;
 mod tree;
 mod two_step;
 
+pub use capacities::Capacities;
 pub use curves::{Curve, Perm};
 pub use fields::{value, Fields};
 pub use lengths::{Rel, F32};
 pub use mean::{Cand, Forbidden, Gain, Matrix, Search, Segment};
 pub use neighbours::{Knn, Order};
 pub use room::Slice;
+pub use segments::{Record, Seeded};
 pub use text::{bits, same};
-pub use tree::{Grown, Node, Record, Tree};
+pub use tree::{Grown, Node, Tree};
 pub use two_step::{Guesses, Pick};
 
 use room::Short;
@@ -30,7 +34,7 @@ pub trait Kind: Sized {
     fn read(fields: &mut Fields) -> Option<Self>;
 
     /// The slices that it lends, in the page's order.
-    fn lends(&self) -> Vec<Slice> {
+    fn lends(&self, _: &Capacities) -> Vec<Slice> {
         vec![]
     }
 }
@@ -49,9 +53,9 @@ macro_rules! kinds {
                 }
             }
 
-            fn lends(&self) -> Vec<Slice> {
+            fn lends(&self, capacities: &Capacities) -> Vec<Slice> {
                 match self {
-                    $(Case::$kind(case) => case.lends(),)*
+                    $(Case::$kind(case) => case.lends(capacities),)*
                 }
             }
         }
@@ -64,6 +68,7 @@ kinds! {
     b"cand" Cand,
     b"gain" Gain,
     b"search" Search,
+    b"seeded" Seeded,
     b"tree" Tree,
     b"order" Order,
     b"knn" Knn,
@@ -72,9 +77,6 @@ kinds! {
     b"guesses" Guesses,
     b"perm" Perm,
 }
-
-/// The longest line, LF included.
-const LONGEST: usize = 4_000_000;
 
 /// A line that is a case.
 pub struct Line {
@@ -87,9 +89,9 @@ pub struct Line {
 
 impl Line {
     /// The case of a line, or nothing if the line is no case.
-    pub fn read(line: &[u8]) -> Option<Line> {
-        let words = line.strip_suffix(b"\n").filter(|_| line.len() <= LONGEST)?;
-        let mut fields = Fields::of(words);
+    pub fn read(line: &[u8], capacities: Capacities) -> Option<Line> {
+        let words = line.strip_suffix(b"\n").filter(|_| line.len() <= capacities.line)?;
+        let mut fields = Fields::of(words, capacities);
         let mut word = fields.word()?;
         let mut short = None;
         if word == b"short" {
@@ -97,7 +99,7 @@ impl Line {
             word = fields.word()?;
         }
         let case = Case::read(word, &mut fields)?;
-        let slices = case.lends();
+        let slices = case.lends(&capacities);
         let named = short.is_none_or(|short| (1..=slices.len()).contains(&short.slice));
         let too_large = fields.passed();
         (fields.at_end() && named).then_some(Line { case, too_large, slices, short })

@@ -1,8 +1,7 @@
 //! `cand`, `gain` and `search`.
 
-use crate::room::{by_ends, sums};
 use crate::text::{bits, rows, values};
-use crate::{Fields, Kind, Slice};
+use crate::{Capacities, Fields, Kind, Slice};
 
 pub type Forbidden = Option<Vec<usize>>;
 
@@ -33,9 +32,9 @@ impl Kind for Cand {
     }
 
     /// Candidates.
-    fn lends(&self) -> Vec<Slice> {
+    fn lends(&self, capacities: &Capacities) -> Vec<Slice> {
         let Segment { start, stop, m, .. } = self.segment;
-        vec![by_ends(start, stop, 2 * m as u128)]
+        vec![capacities.by_ends(start, stop, 2 * m as u128)]
     }
 }
 
@@ -61,8 +60,8 @@ impl Kind for Gain {
     }
 
     /// Sums.
-    fn lends(&self) -> Vec<Slice> {
-        vec![sums(&self.matrix)]
+    fn lends(&self, capacities: &Capacities) -> Vec<Slice> {
+        vec![capacities.sums(&self.matrix)]
     }
 }
 
@@ -86,8 +85,8 @@ impl Kind for Search {
     }
 
     /// Sums.
-    fn lends(&self) -> Vec<Slice> {
-        vec![sums(&self.matrix)]
+    fn lends(&self, capacities: &Capacities) -> Vec<Slice> {
+        vec![capacities.sums(&self.matrix)]
     }
 }
 

@@ -1,7 +1,7 @@
 //! `order` and `knn`.
 
 use crate::text::{all, values};
-use crate::{room, Fields, Kind, Matrix, Slice};
+use crate::{Capacities, Fields, Kind, Matrix, Slice};
 
 pub struct Order {
     pub matrix: Matrix,
@@ -15,8 +15,8 @@ impl Kind for Order {
     }
 
     /// Ordering, distances.
-    fn lends(&self) -> Vec<Slice> {
-        room::ordering(self.matrix.n).into()
+    fn lends(&self, capacities: &Capacities) -> Vec<Slice> {
+        capacities.ordering(self.matrix.n).into()
     }
 }
 
@@ -42,9 +42,9 @@ impl Kind for Knn {
     }
 
     /// Ordering, distances, output.
-    fn lends(&self) -> Vec<Slice> {
-        let output = room::by_ends(self.start, self.stop, 0);
-        room::ordering(self.matrix.n).into_iter().chain([output]).collect()
+    fn lends(&self, capacities: &Capacities) -> Vec<Slice> {
+        let output = capacities.by_ends(self.start, self.stop, 0);
+        capacities.ordering(self.matrix.n).into_iter().chain([output]).collect()
     }
 }
 

@@ -1,8 +1,7 @@
 //! Lent memory: what document 01 asks of each slice, and what docs/REPLAY.md lends. All lengths are
 //! exact.
 
-use crate::fields::CURVE;
-use crate::Matrix;
+use crate::{Capacities, Matrix};
 
 /// `short I K`.
 #[derive(Clone, Copy)]
@@ -20,34 +19,10 @@ pub struct Slice {
     by_ends: bool,
 }
 
-const SUMS: u128 = 262_144;
-const RECORDS: u128 = 262_144;
-const NEIGHBOUR_ROWS: u128 = 1_024;
 const LONGER: u128 = 3;
 
-fn slice(asked: Option<u128>, capacity: u128) -> Slice {
-    Slice { asked, capacity, by_ends: false }
-}
-
-/// What is asked by the ends of a segment, `less` of its rows not counted.
-pub(crate) fn by_ends(start: usize, stop: usize, less: u128) -> Slice {
-    let asked = (stop as u128).saturating_sub(start as u128).saturating_sub(less);
-    Slice { asked: Some(asked), capacity: CURVE as u128, by_ends: true }
-}
-
-pub(crate) fn curve(length: usize) -> Slice {
-    slice(Some(length as u128), CURVE as u128)
-}
-
-/// "(n+1)*d f64 of room".
-pub(crate) fn sums(matrix: &Matrix) -> Slice {
-    slice(Some((matrix.n as u128 + 1) * matrix.d as u128), SUMS)
-}
-
-/// "n*n u32 and n f64 of room".
-pub(crate) fn ordering(n: usize) -> [Slice; 2] {
-    let n = n as u128;
-    [slice(Some(n * n), NEIGHBOUR_ROWS * NEIGHBOUR_ROWS), slice(Some(n), NEIGHBOUR_ROWS)]
+fn slice(asked: Option<u128>, capacity: usize) -> Slice {
+    Slice { asked, capacity: capacity as u128, by_ends: false }
 }
 
 /// "B = max(1, 2*floor((n-1)/m)-1)".
@@ -65,12 +40,41 @@ fn most_stored(layers: &[f64]) -> Option<u128> {
     layers.iter().map(count).sum()
 }
 
-/// "B nodes, T+B records, (B-1)/2 cuts", in the page's order: records, nodes, cuts.
-pub(crate) fn tree(n: usize, m: usize, layers: &[f64]) -> [Slice; 3] {
-    let nodes = most_nodes(n, m);
-    let records = nodes.and_then(|nodes| Some(most_stored(layers)? + nodes));
-    let cuts = nodes.map(|nodes| (nodes - 1) / 2);
-    [records, nodes, cuts].map(|asked| slice(asked, RECORDS))
+/// What document 01 asks of each slice, under the capacity of its array.
+impl Capacities {
+    /// What is asked by the ends of a segment, `less` of its rows not counted.
+    pub(crate) fn by_ends(&self, start: usize, stop: usize, less: u128) -> Slice {
+        let asked = (stop as u128).saturating_sub(start as u128).saturating_sub(less);
+        Slice { by_ends: true, ..slice(Some(asked), self.curve) }
+    }
+
+    pub(crate) fn curve(&self, length: usize) -> Slice {
+        slice(Some(length as u128), self.curve)
+    }
+
+    /// "(n+1)*d f64 of room".
+    pub(crate) fn sums(&self, matrix: &Matrix) -> Slice {
+        slice(Some((matrix.n as u128 + 1) * matrix.d as u128), self.sums)
+    }
+
+    /// "n*n u32 and n f64 of room".
+    pub(crate) fn ordering(&self, n: usize) -> [Slice; 2] {
+        let (n, most) = (n as u128, self.rows);
+        [slice(Some(n * n), most * most), slice(Some(n), most)]
+    }
+
+    /// "T the layers' counts summed": a record for each segment.
+    pub(crate) fn stored(&self, layers: &[f64]) -> Slice {
+        slice(most_stored(layers), self.records)
+    }
+
+    /// "B nodes, T+B records, (B-1)/2 cuts", in the page's order: records, nodes, cuts.
+    pub(crate) fn grown(&self, n: usize, m: usize, layers: &[f64]) -> [Slice; 3] {
+        let nodes = most_nodes(n, m);
+        let records = nodes.and_then(|nodes| Some(most_stored(layers)? + nodes));
+        let cuts = nodes.map(|nodes| (nodes - 1) / 2);
+        [records, nodes, cuts].map(|asked| slice(asked, self.records))
+    }
 }
 
 impl Slice {

@@ -1,7 +1,8 @@
 //! `tree`.
 
+use crate::segments::counted;
 use crate::text::{all, bits, rows};
-use crate::{fields, room, Fields, Forbidden, Kind, Matrix, Slice};
+use crate::{Capacities, Fields, Forbidden, Kind, Matrix, Record, Slice};
 
 pub struct Tree {
     pub matrix: Matrix,
@@ -16,23 +17,15 @@ impl Kind for Tree {
     fn read(fields: &mut Fields) -> Option<Self> {
         let size = fields.size()?;
         let (m, threshold) = (fields.number()?, fields.value()?);
-        let (forbidden, layers) = (fields.forbidden()?, fields.values(fields::LAYERS)?);
+        let (forbidden, layers) = (fields.forbidden()?, fields.layers()?);
         Some(Tree { matrix: fields.matrix(size)?, m, threshold, forbidden, layers })
     }
 
     /// Sums, records, nodes, cuts.
-    fn lends(&self) -> Vec<Slice> {
-        let grown = room::tree(self.matrix.n, self.m, &self.layers);
-        [room::sums(&self.matrix)].into_iter().chain(grown).collect()
+    fn lends(&self, capacities: &Capacities) -> Vec<Slice> {
+        let grown = capacities.grown(self.matrix.n, self.m, &self.layers);
+        [capacities.sums(&self.matrix)].into_iter().chain(grown).collect()
     }
-}
-
-#[derive(Clone, Copy)]
-pub struct Record {
-    pub start: usize,
-    pub stop: usize,
-    pub split: usize,
-    pub gain: f64,
 }
 
 #[derive(Clone, Copy)]
@@ -56,13 +49,9 @@ impl Tree {
         let Grown { nodes, cuts, records } = grown;
         let nodes = format!(" nodes {}{}", nodes.len(), all(nodes, node));
         let cuts = format!(" cuts {}{}", cuts.len(), rows(cuts));
-        let records = format!(" records {}{}", records.len(), all(records, record));
+        let records = format!(" records{}", counted(records));
         nodes + &cuts + &records
     }
-}
-
-fn record(record: Record) -> String {
-    format!("{},{},{},{}", record.start, record.stop, record.split, bits(record.gain))
 }
 
 fn node(node: Node) -> String {

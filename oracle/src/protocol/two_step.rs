@@ -1,6 +1,5 @@
 //! `pick` and `guesses`.
 
-use crate::fields::CURVE;
 use crate::text::{bits, rows};
 use crate::{Fields, Kind, Segment};
 
@@ -15,7 +14,7 @@ impl Kind for Pick {
     fn read(fields: &mut Fields) -> Option<Self> {
         let n = fields.number()?;
         let segment = fields.segment(n)?;
-        Some(Pick { segment, guess: fields.number()?, curve: fields.values(CURVE)? })
+        Some(Pick { segment, guess: fields.number()?, curve: fields.curve()? })
     }
 }
 

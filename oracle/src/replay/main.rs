@@ -1,5 +1,5 @@
-//! replay: answers each case of standard input (docs/REPLAY.md) through the functions that hosts
-//! call. What is told of a case is what the library answers; nothing is judged here. A kind's calls
+//! replay [--wide]: answers each case of standard input (docs/REPLAY.md) through the functions that
+//! hosts call. What is told of a case is what the library answers; nothing is judged here. A kind's calls
 //! stand in one of these files, beside the file of that name in ../protocol.
 
 mod curves;
@@ -8,11 +8,12 @@ mod lent;
 mod mean;
 mod neighbours;
 mod outcome;
+mod segments;
 mod tree;
 mod two_step;
 
 use outcome::Outcome;
-use protocol::{Case, Line};
+use protocol::{Capacities, Case, Line};
 use std::io::{stdin, stdout, BufRead, BufWriter, Result, Write};
 
 /// A kind of case that can be called: lends what the line says, calls, and tells what came of it.
@@ -27,6 +28,7 @@ fn called(line: &Line) -> Outcome {
         Case::Cand(case) => case.call(line),
         Case::Gain(case) => case.call(line),
         Case::Search(case) => case.call(line),
+        Case::Seeded(case) => case.call(line),
         Case::Tree(case) => case.call(line),
         Case::Order(case) => case.call(line),
         Case::Knn(case) => case.call(line),
@@ -37,8 +39,8 @@ fn called(line: &Line) -> Outcome {
     }
 }
 
-fn answer(line: &[u8]) -> String {
-    match Line::read(line) {
+fn answer(line: &[u8], capacities: Capacities) -> String {
+    match Line::read(line, capacities) {
         None => "unknown".into(),
         Some(line) if line.too_large => outcome::TOO_LARGE.into(),
         Some(line) => called(&line).answer(&line),
@@ -46,10 +48,16 @@ fn answer(line: &[u8]) -> String {
 }
 
 fn main() -> Result<()> {
+    let arguments: Vec<String> = std::env::args().skip(1).collect();
+    let words: Vec<&str> = arguments.iter().map(String::as_str).collect();
+    let Some(capacities) = Capacities::named(&words) else {
+        eprintln!("replay [--wide]");
+        std::process::exit(2)
+    };
     let (mut input, mut output) = (stdin().lock(), BufWriter::new(stdout().lock()));
     let mut line = vec![];
     while input.read_until(b'\n', &mut line)? > 0 {
-        writeln!(output, "{}", answer(&line))?;
+        writeln!(output, "{}", answer(&line, capacities))?;
         line.clear();
     }
     output.flush()

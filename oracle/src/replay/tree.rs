@@ -1,26 +1,24 @@
 use crate::lent::{nodes, numbers, values, Lent};
 use crate::mean::{as_gain_leaves, matrix, sums_of};
 use crate::outcome::agree;
+use crate::segments::{record, Records};
 use crate::{Call, Outcome};
 use haspgarnet_changeforest::lent::TreeRoom;
 use haspgarnet_changeforest::{lent, owned, Counts, Node, Settings};
-use protocol::{Grown, Line, Record, Tree};
+use protocol::{Grown, Line, Tree};
 
 struct Room {
     sums: Lent<f64>,
-    rows: Lent<usize>,
-    gains: Lent<f64>,
+    records: Records,
     nodes: Lent<Node>,
     cuts: Lent<usize>,
 }
 
 impl Room {
-    /// A record is three rows and a gain.
     fn of(line: &Line) -> Room {
         Room {
             sums: values(line.lent(1)),
-            rows: numbers(3 * line.lent(2)),
-            gains: values(line.lent(2)),
+            records: Records::of(line.lent(2)),
             nodes: nodes(line.lent(3)),
             cuts: numbers(line.lent(4)),
         }
@@ -29,8 +27,8 @@ impl Room {
     fn lend(&mut self) -> TreeRoom<'_> {
         TreeRoom {
             sums: self.sums.slice(),
-            rows: self.rows.slice(),
-            gains: self.gains.slice(),
+            rows: self.records.rows.slice(),
+            gains: self.records.gains.slice(),
             nodes: self.nodes.slice(),
             cuts: self.cuts.slice(),
         }
@@ -38,30 +36,18 @@ impl Room {
 
     fn kept_past(&self, sums: usize, records: usize, nodes: usize, cuts: usize) -> bool {
         self.sums.kept_past(sums)
-            && self.rows.kept_past(3 * records)
-            && self.gains.kept_past(records)
+            && self.records.kept_past(records)
             && self.nodes.kept_past(nodes)
             && self.cuts.kept_past(cuts)
     }
 
     fn grown(&self, counts: Counts) -> Grown {
-        let (rows, gains) = (self.rows.told(3 * counts.records), self.gains.told(counts.records));
-        let record = |(row, gain): (&[usize], &f64)| Record {
-            start: row[0],
-            stop: row[1],
-            split: row[2],
-            gain: *gain,
-        };
         Grown {
             nodes: self.nodes.told(counts.nodes).iter().map(node).collect(),
             cuts: self.cuts.told(counts.cuts).to_vec(),
-            records: rows.chunks_exact(3).zip(gains).map(record).collect(),
+            records: self.records.told(counts.records),
         }
     }
-}
-
-fn record(record: &haspgarnet_changeforest::Record) -> Record {
-    Record { start: record.start, stop: record.stop, split: record.split, gain: record.gain }
 }
 
 fn node(node: &Node) -> protocol::Node {

@@ -1,0 +1,52 @@
+//! How much a line may hold and lend: the capacities of docs/REPLAY.md, as they are and wide.
+
+#[derive(Clone, Copy)]
+pub struct Capacities {
+    /// Bytes, LF included.
+    pub(crate) line: usize,
+    pub(crate) cells: usize,
+    pub(crate) sums: usize,
+    pub(crate) permutations: usize,
+    pub(crate) forbidden: usize,
+    pub(crate) layers: usize,
+    /// Of a curve, candidates and predictions.
+    pub(crate) curve: usize,
+    /// Of records, nodes and cuts.
+    pub(crate) records: usize,
+    /// Of a matrix whose neighbours are ordered.
+    pub(crate) rows: usize,
+}
+
+impl Capacities {
+    pub const PAGE: Capacities = Capacities {
+        line: 4_000_000,
+        cells: 262_144,
+        sums: 262_144,
+        permutations: 262_144,
+        forbidden: 2_048,
+        layers: 100,
+        curve: 4_097,
+        records: 262_144,
+        rows: 1_024,
+    };
+
+    /// Room for every size of document 01: 4,097*64 sums, 999*4,096 permutation entries, 64*8,191
+    /// stored records and 8,189 more. A forbidden list has no size there.
+    pub const WIDE: Capacities = Capacities {
+        line: 128_000_000,
+        sums: 262_208,
+        permutations: 4_096_000,
+        forbidden: 100_000,
+        records: 600_000,
+        ..Capacities::PAGE
+    };
+
+    /// `--wide` is an argument of the programs; without arguments they read the page's.
+    pub fn named(arguments: &[&str]) -> Option<Capacities> {
+        match arguments {
+            [] => Some(Capacities::PAGE),
+            ["--wide"] => Some(Capacities::WIDE),
+            _ => None,
+        }
+    }
+}
