@@ -1,5 +1,6 @@
 -- The laws that belong to no one function.
 pub mod Limits
 pub mod Grown
+pub mod Printed
 pub mod Said
 pub mod Lots

@@ -17,11 +17,12 @@ use Rattle.report.specs.Written.{Written}
 use Rattle.report.proofs.Texts.{written-length, written-whole}
 use Rattle.line.specs.declared.Given.{Given}
 use Rattle.deck.specs.declared.Read.{Read}
-use Rattle.deck.specs.Meaning.{Told}
+use Rattle.deck.specs.Meaning.{Told, Says}
 use Rattle.limits.specs.Limits.{givenRefusal}
 use Rattle.limits.proofs.Refused.{held, refusal-right}
 use Rattle.answers.specs.Answered.{matrixHeld, settingsHeld, runHeld, lent, treeNumber, orElse, givenText, readText, Said}
 use Rattle.answers.proofs.Limits.{DeckClean, deck-clean, tree-clean}
+use Rattle.answers.proofs.Printed.{answers}
 
 held-cells : (zs : List ℤ) (cells₀ cells : List Float) (k : ℕ) → cells ≡ holding (take 2048 (map (ofInt binary64) zs)) cells₀ → length zs ≡ k → k ≤ 2048 → take k cells ≡ map (ofInt binary64) zs
 held-cells zs cells₀ cells k h l s =
@@ -76,7 +77,11 @@ module _ (cells₀ : List Float) (forbidden₀ : List ℕ) (room : 128 ≤ lengt
   deck-said = ⊎-elim (λ e. ap readingText e) (λ e. ap readingText e) (told .is-read)
 
 -- THE LAW
-pub read-said : (read : Read) (cells : List Float) (forbidden : List ℕ) → Said read cells forbidden (readText read cells forbidden)
+pub read-said : (read : Read) (cells : List Float) (forbidden input : List ℕ) (cells₀ : List Float) (forbidden₀ : List ℕ)
+    → 2048 ≤ length cells₀
+    → 128 ≤ length forbidden₀
+    → Says cells₀ forbidden₀ read cells forbidden (readInput input)
+    → readText read cells forbidden ≡ program input
 unfolding program
 read-said (Read.Bad k) cells forbidden input cells₀ forbidden₀ room room₂ says = sym (ap readingText says)
 read-said (Read.Deck g) cells forbidden input cells₀ forbidden₀ room room₂ told =
@@ -91,7 +96,7 @@ written-said read cells forbidden out out′ r w h = (
     λ input cells₀ forbidden₀ room room₂ says.
         let text = readText read cells forbidden in
         let long : length text ≡ r = omega (arith, w .end-is) in
-        ap (take r) (written-whole w (omega arith)) ∙ take-at text (drop (length text) out) r long ∙ read-said read cells forbidden input cells₀ forbidden₀ room room₂ says,
+        answers input (take r out′) (ap (take r) (written-whole w (omega arith)) ∙ take-at text (drop (length text) out) r long ∙ read-said read cells forbidden input cells₀ forbidden₀ room room₂ says),
     omega (arith, written-length w),
   ),
 )

@@ -10,7 +10,8 @@ use Rattle.scope.specs.Refusals.{unless, toldUnless}
 use Rattle.scope.specs.Text.{bytes, decimal, line}
 use Rattle.scope.specs.Tree.{Run, treeOf, recordsOf, sheet}
 use Rattle.scope.specs.Calls.{Room, runOf, countsOf, treeRefusal}
-use Rattle.scope.specs.Program.{judgedText, readInput, program}
+use Rattle.scope.specs.Program.{judgedText, readInput}
+use Rattle.demand.specs.Printed.{Answers}
 use Rattle.stored.specs.Flat.{flatRows, gainsOf}
 use Rattle.line.specs.declared.Given.{Given}
 use Rattle.deck.specs.declared.Read.{Read}
@@ -56,11 +57,11 @@ abbrev pub readText : Read → List Float → List ℕ → List ℕ
 readText (Read.Bad k) cells forbidden = line (bytes "bad" ∷ decimal k ∷ [])
 readText (Read.Deck g) cells forbidden = givenText g cells forbidden
 
--- A text is right for a reading if it is the program's text for whichever input was read so, into slices that have room.
+-- A text is right for a reading if it answers whichever input was read so, into slices that have room.
 abbrev pub Said : Read → List Float → List ℕ → List ℕ → Type 0
 Said read cells forbidden text =
     (input : List ℕ) (cells₀ : List Float) (forbidden₀ : List ℕ)
     → 2048 ≤ length cells₀
     → 128 ≤ length forbidden₀
     → Says cells₀ forbidden₀ read cells forbidden (readInput input)
-    → text ≡ program input
+    → Answers input text

@@ -7,3 +7,4 @@ pub mod Told
 pub mod AllZero
 pub mod Levels
 pub mod Demand
+pub mod Printed

@@ -11,7 +11,7 @@ use Rattle.scope.specs.Lists.{every}
 use Rattle.scope.specs.Asked.{Matrix, Settings}
 use Rattle.scope.specs.Refusals.{Test, test, firstOf, outside, mostColumns, wellPaired, no2, no3}
 use Rattle.scope.specs.Grid.{Record}
-use Rattle.scope.specs.Tree.{Tree, treeOf, cuts, nodeCount}
+use Rattle.scope.specs.Tree.{Run, Tree, treeOf, cuts, nodeCount}
 use Rattle.scope.specs.Calls.{runOf}
 use Rattle.scope.specs.Text.{bytes, tab, lf, same, parts, number, cellsOf, threshold, decimal, hexOf, line}
 
@@ -175,8 +175,11 @@ abbrev pub judgedText : ℕ → Tree → List ℕ
 judgedText zero t = sheetText t
 judgedText (suc k) t = line (bytes "refused" ∷ decimal (suc k) ∷ [])
 
+abbrev pub deckRun : Deck → Run
+deckRun deck = runOf (deckMatrix deck) (deckSettings deck)
+
 abbrev pub deckTree : Deck → Tree
-deckTree deck = treeOf (runOf (deckMatrix deck) (deckSettings deck))
+deckTree deck = treeOf (deckRun deck)
 
 abbrev pub deckText : Deck → List ℕ
 deckText deck = judgedText (deckRefusal deck) (deckTree deck)

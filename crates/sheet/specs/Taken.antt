@@ -5,7 +5,8 @@ use mathlib.Core.List.{List, _++_}
 use Prim.Native.Nat.{ℕ, _+_, _*_, _^_, _≤_}
 use lib.Ieee.{Float}
 use lib.ListN.{length, take}
-use Rattle.scope.specs.Program.{readInput, program}
+use Rattle.scope.specs.Program.{readInput}
+use Rattle.demand.specs.Printed.{Answers}
 use Rattle.deck.specs.declared.State.{State}
 use Rattle.deck.specs.declared.Read.{Read}
 use Rattle.deck.specs.Walk.{run, fed}
@@ -68,7 +69,7 @@ abbrev pub Taken : List ℕ → List Float → List ℕ → List Float → List 
 Taken kept cells₀ forbidden₀ cells forbidden (input.Read read) = Whole kept cells₀ forbidden₀ cells forbidden read
 Taken kept cells₀ forbidden₀ cells forbidden input.Failed = Unit {0}
 
--- what is to be written: nothing, or the program's text for the input
+-- what is to be written: nothing, or the answer to the input
 pub data Told (kept text : List ℕ) : Type 0 where
   nothing : length text ≡ 0 → Told kept text
-  of : (bytes : List ℕ) → Held kept bytes → text ≡ program bytes → Told kept text
+  of : (bytes : List ℕ) → Held kept bytes → Answers bytes text → Told kept text
