@@ -27,21 +27,22 @@ use Rattle.sheet_text.specs.Lines.{sheetOf}
 use Rattle.sheet_text.proofs.Lookup.{lines-are}
 use Rattle.answers.specs.Answered.{matrixHeld, settingsHeld, runHeld, lent, treeNumber, Grew, givenText}
 use Rattle.entry_tree.specs.Answers.{grownOf}
-use Rattle.entry_tree.specs.Left.{PointSlices, PointsLeft}
+use Rattle.segmentation.specs.Seeds.{Slices as RecordSlices}
+use Rattle.entry_tree.specs.Left.{PointsLeft}
 use Rattle.entry_tree.specs.declared.Grown.{Grown}
 use Rattle.entry_tree.specs.declared.Grown.the-variants as grown
 use Rattle.binary_segmentation.specs.declared.tree.Counts.{Counts as Counted}
 
 -- what the call for the tree ensures, in the room that the types give, is what `Grew` says
-module _ (g : Given) (cells : List Float) (forbidden : List ℕ) (threshold : Float) (is : threshold ≡ ofBits binary64 (g .threshold)) (before after : PointSlices) (r : Grown)
-    (left : PointsLeft (matrixHeld g cells) (record { shortest = record { m = g .m }; threshold = threshold; forbidden = take (2 * g .pairs) forbidden; layers = [] }) r before after) where
-  pub grew : length (before .sums) ≡ 2112 → length (before .rows) ≡ 1527 → length (before .gains) ≡ 509 → length (before .cuts) ≡ 254
-      → Grew g cells forbidden (before .rows) (before .gains) (before .cuts) (after .rows) (after .gains) (after .cuts) r
+module _ (g : Given) (cells : List Float) (forbidden : List ℕ) (threshold : Float) (is : threshold ≡ ofBits binary64 (g .threshold)) (before after : RecordSlices) (cuts₀ cuts₁ : List ℕ) (r : Grown)
+    (left : PointsLeft (matrixHeld g cells) (record { shortest = record { m = g .m }; threshold = threshold; forbidden = take (2 * g .pairs) forbidden; layers = [] }) r before after cuts₀ cuts₁) where
+  pub grew : length (before .sums) ≡ 2112 → length (before .rows) ≡ 1527 → length (before .gains) ≡ 509 → length cuts₀ ≡ 254
+      → Grew g cells forbidden (before .rows) (before .gains) cuts₀ (after .rows) (after .gains) cuts₁ r
   unfolding treeNumber treeCall
   grew a b c d = record {
     answer-is = rw (is, a, b, c, d) at (left .answer);
-    rows-are = rw (is, a, b, c, d) at (left .rows);
-    gains-are = rw (is, a, b, c, d) at (left .gains);
+    rows-are = rw (is, a, b, c, d) at (left .held .rows-are);
+    gains-are = rw (is, a, b, c, d) at (left .held .gains-are);
     cuts-are = rw (is, a, b, c, d) at (left .cuts);
   }
 

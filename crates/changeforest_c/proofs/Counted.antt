@@ -1,5 +1,5 @@
 -- The tree for a host: where its counts don't fit no nodes are lent on, and the number is the one that its tests give. Assumes nothing.
-use mathlib.Core.Path.{_≡_, refl, sym, _∙_, ap}
+use mathlib.Core.Path.{_≡_, refl, _∙_, ap, subst}
 use mathlib.Core.Bool.{Bool, true, false, cond}
 use mathlib.Core.List.{List, [], _∷_, _++_, map, append-nil}
 use Prim.Native.Nat.{ℕ, zero, suc, _-_, _/_, _≤_}
@@ -15,7 +15,8 @@ use Rattle.scope.specs.Tree.{Run, treeOf, recordsOf, Node, nodes, sheet, mostNo
 use Rattle.scope.specs.Calls.{sumsOf, TreeAsked, treeTests, treeRefusal, treeCall, Counts, countsOf, runOf, countedRefusal, countedCall, countsTold}
 use Rattle.scope.proofs.Never.{never}
 use Rattle.control.proofs.Clean.{Numbered}
-use Rattle.stored.specs.Flat.{flatRows, gainsOf, recordRoom}
+use Rattle.stored.specs.Flat.{recordRoom}
+use Rattle.segmentation.specs.Seeds.{Held}
 use Rattle.node.specs.Nodes.{toNode}
 use Rattle.demand.specs.Demand.{Demand}
 use Rattle.prepared.specs.Answers.{treeAsked}
@@ -147,9 +148,7 @@ module _ (x : Matrix) (s : Settings) (before : Slices) (counts₀ : List ℕ) wh
       stored =
           record {
             number = heard .number ∙ ap (λ (y : Grown). grownNumber y) grew ∙ number-is answer;
-            sums = left .sums ∙ ap (λ (k : ℕ). holding (toldUnless k (sumsOf x)) (before .sums)) same;
-            rows = left .rows ∙ ap (λ (k : ℕ). holding (flatRows (toldUnless k (recordsOf q))) (before .rows)) same;
-            gains = left .gains ∙ ap (λ (k : ℕ). holding (gainsOf (toldUnless k (recordsOf q))) (before .gains)) same;
+            held = subst (λ (k : ℕ). Held (toldUnless k (sumsOf x)) (toldUnless k (recordsOf q)) (recordSlices before) (recordSlices after)) same (left .held);
             nodes = ap (λ l. l ++ drop room (before .nodes)) (left .nodes ∙ ap (λ (k : ℕ). holding (map toNode (toldUnless k (nodes 0 (treeOf q)))) (take room (before .nodes))) same) ∙ nodes-whole;
             cuts = left .cuts ∙ ap (λ (k : ℕ). holding (toldUnless k (sheet (treeOf q))) (before .cuts)) same;
             counts = counts-told;

@@ -7,12 +7,12 @@ use lib.Ieee.{Float}
 use lib.ListN.{length}
 use Rattle.scope.specs.Lists.{holding}
 use Rattle.scope.specs.Asked.{Matrix, Shortest, Settings}
-use Rattle.scope.specs.Calls.{lengthAnswer, CandidatesAsked, candidatesCall, GainAsked, gainCall, SearchAsked, searchCall, seededCall, TreeTold, runOf, countedCall, countsTold, PickAsked, pickAnswer, GuessesAsked, guessesAnswer, PermutationAsked, permutationAnswer}
-use Rattle.stored.specs.Flat.{flatRows, gainsOf}
-use Rattle.segmentation.specs.Seeds.{Slices as RecordSlices, seededAsked}
+use Rattle.scope.specs.Calls.{lengthAnswer, CandidatesAsked, candidatesCall, GainAsked, gainCall, SearchAsked, searchCall, TreeTold, runOf, countedCall, countsTold, PickAsked, pickAnswer, GuessesAsked, guessesAnswer, PermutationAsked, permutationAnswer}
+use Rattle.segmentation.specs.Seeds.{Slices as RecordSlices, Held}
 use Rattle.node.specs.Nodes.{toNode}
 use Rattle.demand.specs.Demand.{Demand}
 use Rattle.prepared.specs.Answers.{treeAsked}
+use Rattle.entry_segments.specs.Left.{seededTold}
 use Rattle.entry_tree.specs.Left.{Slices, recordSlices}
 use Rattle.told.specs.Told.{numberOf, valueOr, splitOr, gainOr, entryOr, lengthOr, counterOr, pOr, significantOr}
 
@@ -42,11 +42,9 @@ pub record SearchStored (a : SearchAsked) (r : ℕ) (sums₀ sums₁ : List Floa
 
 -- the seeded segments' records, how many, and the prefix sums
 pub record SeededStored (x : Matrix) (short : Shortest) (forbidden : List ℕ) (layers : List Float) (r : ℕ) (before after : RecordSlices) (count₀ count₁ : ℕ) : Type 0 where
-  pub number : r ≡ numberOf (seededCall (seededAsked x short forbidden layers before) .answer)
-  pub sums : after .sums ≡ holding (seededCall (seededAsked x short forbidden layers before) .sums) (before .sums)
-  pub rows : after .rows ≡ holding (flatRows (seededCall (seededAsked x short forbidden layers before) .records)) (before .rows)
-  pub gains : after .gains ≡ holding (gainsOf (seededCall (seededAsked x short forbidden layers before) .records)) (before .gains)
-  pub count : count₁ ≡ valueOr (seededCall (seededAsked x short forbidden layers before) .answer) count₀
+  pub number : r ≡ numberOf (seededTold x short forbidden layers before .answer)
+  pub held : Held (seededTold x short forbidden layers before .sums) (seededTold x short forbidden layers before .records) before after
+  pub count : count₁ ≡ valueOr (seededTold x short forbidden layers before .answer) count₀
 
 -- what follows of a tree where these are lent, and so many counts
 abbrev pub countedTold : Matrix → Settings → Slices → List ℕ → TreeTold
@@ -55,9 +53,7 @@ countedTold x s lent counts = countedCall (treeAsked x s (recordSlices lent) (le
 -- the tree's nodes, its records, its cuts, the prefix sums, and the three counts; and of a run that is not refused, the demand on its tree and its sheet
 pub record TreeStored (x : Matrix) (s : Settings) (r : ℕ) (before after : Slices) (counts₀ counts₁ : List ℕ) : Type 0 where
   pub number : r ≡ numberOf (countedTold x s before counts₀ .answer)
-  pub sums : after .sums ≡ holding (countedTold x s before counts₀ .sums) (before .sums)
-  pub rows : after .rows ≡ holding (flatRows (countedTold x s before counts₀ .records)) (before .rows)
-  pub gains : after .gains ≡ holding (gainsOf (countedTold x s before counts₀ .records)) (before .gains)
+  pub held : Held (countedTold x s before counts₀ .sums) (countedTold x s before counts₀ .records) (recordSlices before) (recordSlices after)
   pub nodes : after .nodes ≡ holding (map toNode (countedTold x s before counts₀ .nodes)) (before .nodes)
   pub cuts : after .cuts ≡ holding (countedTold x s before counts₀ .cuts) (before .cuts)
   pub counts : counts₁ ≡ holding (countsTold (countedTold x s before counts₀ .answer)) counts₀

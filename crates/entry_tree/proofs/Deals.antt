@@ -65,5 +65,5 @@ splitting = record {
   asks = λ _. Unit {0};
   says = λ (cells, (n, (d, (s, (forbidden, (layers, (sums, (rows, (gains, (cuts, _)))))))))) r (_, (_, (_, (_, (_, (_, (sums′, (rows′, (gains′, (cuts′, _)))))))))).
       PointsLeft (record { cells = now (cells .x); n = n; d = d }) (settingsOf s (now (forbidden .x)) (now (layers .x))) r
-      (record { sums = sums .list; rows = rows .list; gains = gains .list; cuts = cuts .list }) (record { sums = sums′; rows = rows′; gains = gains′; cuts = cuts′ });
+      (record { sums = sums .list; rows = rows .list; gains = gains .list }) (record { sums = sums′; rows = rows′; gains = gains′ }) (cuts .list) cuts′;
 }

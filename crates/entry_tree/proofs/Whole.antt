@@ -78,9 +78,11 @@ module _ (x : Matrix) (s : Settings) (forbidden : List ℕ) (layers : List Float
       let (is, some) = unprepared (treeRefusal a) (sumsRoom x) (length (seedsOf a)) k (said .answer) in
       record {
         answer = ap grownOf (answer-refused is some (countsOf q));
-        sums = said .sums;
-        rows = said .rows ∙ sym (held-refused is some flatRows (seedsOf a) (before .rows) refl) ∙ held-refused is some flatRows (recordsOf q) (before .rows) refl;
-        gains = said .gains ∙ sym (held-refused is some gainsOf (seedsOf a) (before .gains) refl) ∙ held-refused is some gainsOf (recordsOf q) (before .gains) refl;
+        held = record {
+          sums-are = said .held .sums-are;
+          rows-are = said .held .rows-are ∙ sym (held-refused is some flatRows (seedsOf a) (before .rows) refl) ∙ held-refused is some flatRows (recordsOf q) (before .rows) refl;
+          gains-are = said .held .gains-are ∙ sym (held-refused is some gainsOf (seedsOf a) (before .gains) refl) ∙ held-refused is some gainsOf (recordsOf q) (before .gains) refl;
+        };
         nodes = held-refused is some (map toNode) (nodes 0 (treeOf q)) (before .nodes) refl;
         cuts = held-refused is some (λ l. l) (sheet (treeOf q)) (before .cuts) refl;
         demand = λ c w. never (cc);
@@ -99,13 +101,13 @@ module _ (x : Matrix) (s : Settings) (forbidden : List ℕ) (layers : List Float
     clean = tree-clean a (sym (told .0))
 
     front-sums : front .sums ≡ holding (sumsOf x) (before .sums)
-    front-sums = held (λ l. l) (sumsOf x) (before .sums) (said .sums)
+    front-sums = held (λ l. l) (sumsOf x) (before .sums) (said .held .sums-are)
 
     front-rows : front .rows ≡ holding (flatRows (seedRecords q)) (before .rows)
-    front-rows = held flatRows (seedRecords q) (before .rows) (said .rows)
+    front-rows = held flatRows (seedRecords q) (before .rows) (said .held .rows-are)
 
     front-gains : front .gains ≡ holding (gainsOf (seedRecords q)) (before .gains)
-    front-gains = held gainsOf (seedRecords q) (before .gains) (said .gains)
+    front-gains = held gainsOf (seedRecords q) (before .gains) (said .held .gains-are)
 
     -- the sums of the run, and no more
     part : take len (front .sums) ≡ sumsOf x
@@ -144,9 +146,11 @@ module _ (x : Matrix) (s : Settings) (forbidden : List ℕ) (layers : List Float
         let made = grown q .made in
         record {
           answer = ap Counted (h .counts) ∙ ap grownOf (answer-given (told .0) refl (countsOf q));
-          sums = said .sums;
-          rows = held-given (told .0) refl flatRows (seedRecords q ++ made) (before .rows) (h .rows ∙ rw (front-rows, rows-append (seedRecords q) made) (told-on (flatRows (seedRecords q)) (flatRows made) (before .rows)));
-          gains = held-given (told .0) refl gainsOf (seedRecords q ++ made) (before .gains) (h .gains ∙ rw (front-gains, gains-append (seedRecords q) made) (told-on (gainsOf (seedRecords q)) (gainsOf made) (before .gains)));
+          held = record {
+            sums-are = said .held .sums-are;
+            rows-are = held-given (told .0) refl flatRows (seedRecords q ++ made) (before .rows) (h .rows ∙ rw (front-rows, rows-append (seedRecords q) made) (told-on (flatRows (seedRecords q)) (flatRows made) (before .rows)));
+            gains-are = held-given (told .0) refl gainsOf (seedRecords q ++ made) (before .gains) (h .gains ∙ rw (front-gains, gains-append (seedRecords q) made) (told-on (gainsOf (seedRecords q)) (gainsOf made) (before .gains)));
+          };
           nodes = held-given (told .0) refl (map toNode) (nodes 0 (treeOf q)) (before .nodes) (h .nodes);
           cuts = held-given (told .0) refl (λ c. c) (sheet (treeOf q)) (before .cuts) (h .cuts);
           demand = λ c w. admitted a (sym (told .0));

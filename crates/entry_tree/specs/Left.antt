@@ -8,8 +8,7 @@ use Rattle.scope.specs.Lists.{holding}
 use Rattle.scope.specs.Asked.{Matrix, Settings}
 use Rattle.scope.specs.Calls.{TreeTold, runOf, treeCall}
 use Rattle.demand.specs.Demand.{Demand}
-use Rattle.stored.specs.Flat.{flatRows, gainsOf}
-use Rattle.segmentation.specs.Seeds.{Slices as RecordSlices}
+use Rattle.segmentation.specs.Seeds.{Slices as RecordSlices, Held}
 use Rattle.node.specs.declared.Node.{Node}
 use Rattle.node.specs.Nodes.{toNode}
 use Rattle.prepared.specs.Answers.{treeAsked}
@@ -36,30 +35,18 @@ treeTold x s lent = treeCall (treeAsked x s (recordSlices lent) (length (lent .n
 -- the tree's nodes, its records, its cuts, and the prefix sums
 pub record TreeLeft (x : Matrix) (s : Settings) (r : Grown) (before after : Slices) : Type 0 where
   pub answer : r ≡ grownOf (treeTold x s before .answer)
-  pub sums : after .sums ≡ holding (treeTold x s before .sums) (before .sums)
-  pub rows : after .rows ≡ holding (flatRows (treeTold x s before .records)) (before .rows)
-  pub gains : after .gains ≡ holding (gainsOf (treeTold x s before .records)) (before .gains)
+  pub held : Held (treeTold x s before .sums) (treeTold x s before .records) (recordSlices before) (recordSlices after)
   pub nodes : after .nodes ≡ holding (map toNode (treeTold x s before .nodes)) (before .nodes)
   pub cuts : after .cuts ≡ holding (treeTold x s before .cuts) (before .cuts)
   pub demand : (c : Counts) → r ≡ grown.Counted c → Demand (runOf x s)
 
 -- ---- for a caller with no use for the nodes: their room is that of any run's
-
--- the lent slices
-pub record PointSlices : Type 0 where
-  pub sums : List Float
-  pub rows : List ℕ
-  pub gains : List Float
-  pub cuts : List ℕ
-
-abbrev pub pointsTold : Matrix → Settings → PointSlices → TreeTold
-pointsTold x s lent = treeCall (treeAsked x s (record { sums = lent .sums; rows = lent .rows; gains = lent .gains }) nodeRoom (length (lent .cuts)))
+abbrev pub pointsTold : Matrix → Settings → RecordSlices → List ℕ → TreeTold
+pointsTold x s lent cuts = treeCall (treeAsked x s lent nodeRoom (length cuts))
 
 -- the tree's records, its cuts, and the prefix sums
-pub record PointsLeft (x : Matrix) (s : Settings) (r : Grown) (before after : PointSlices) : Type 0 where
-  pub answer : r ≡ grownOf (pointsTold x s before .answer)
-  pub sums : after .sums ≡ holding (pointsTold x s before .sums) (before .sums)
-  pub rows : after .rows ≡ holding (flatRows (pointsTold x s before .records)) (before .rows)
-  pub gains : after .gains ≡ holding (gainsOf (pointsTold x s before .records)) (before .gains)
-  pub cuts : after .cuts ≡ holding (pointsTold x s before .cuts) (before .cuts)
+pub record PointsLeft (x : Matrix) (s : Settings) (r : Grown) (before after : RecordSlices) (cuts₀ cuts₁ : List ℕ) : Type 0 where
+  pub answer : r ≡ grownOf (pointsTold x s before cuts₀ .answer)
+  pub held : Held (pointsTold x s before cuts₀ .sums) (pointsTold x s before cuts₀ .records) before after
+  pub cuts : cuts₁ ≡ holding (pointsTold x s before cuts₀ .cuts) cuts₀
   pub demand : (c : Counts) → r ≡ grown.Counted c → Demand (runOf x s)

@@ -80,7 +80,7 @@ pub fn split_points(
     gains: &mut [f64],
     cuts: &mut [usize],
 ) -> Grown
-    ensures { λ r. ⌜ PointsLeft (record { cells = now (cells .entry); n = n; d = d }) (settingsOf settings (now (forbidden .entry)) (now (layers .entry))) r (record { sums = now (sums .entry); rows = now (rows .entry); gains = now (gains .entry); cuts = now (cuts .entry) }) (record { sums = now (sums .exit); rows = now (rows .exit); gains = now (gains .exit); cuts = now (cuts .exit) }) ⌝ }
+    ensures { λ r. ⌜ PointsLeft (record { cells = now (cells .entry); n = n; d = d }) (settingsOf settings (now (forbidden .entry)) (now (layers .entry))) r (record { sums = now (sums .entry); rows = now (rows .entry); gains = now (gains .entry) }) (record { sums = now (sums .exit); rows = now (rows .exit); gains = now (gains .exit) }) (now (cuts .entry)) (now (cuts .exit)) ⌝ }
 {
     let mut nodes = [Node::without_choice(Position(0), Position(0)); MOST_NODES];
     binary_segmentation(

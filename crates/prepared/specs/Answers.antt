@@ -3,14 +3,13 @@ use mathlib.Core.Path.{_≡_}
 use mathlib.Core.List.{List}
 use Prim.Native.Nat.{ℕ}
 use lib.ListN.{length}
-use Rattle.scope.specs.Lists.{holding}
 use Rattle.scope.specs.Asked.{Matrix, Settings}
 use Rattle.scope.specs.Refusals.{Answer, refused, given, unless, toldUnless}
 use Rattle.scope.specs.Grid.{Record}
 use Rattle.scope.specs.Tree.{seedRecords}
 use Rattle.scope.specs.Calls.{sumsOf, sumsRoom, TreeAsked, runOf, treeRefusal}
-use Rattle.stored.specs.Flat.{flatRows, gainsOf, recordRoom}
-use Rattle.segmentation.specs.Seeds.{Slices}
+use Rattle.stored.specs.Flat.{recordRoom}
+use Rattle.segmentation.specs.Seeds.{Slices, Held}
 use Rattle.prepared.specs.declared.Prepared.{Prepared}
 use Rattle.prepared.specs.declared.Prepared.the-variants as prepared
 
@@ -31,6 +30,4 @@ preparedOf sums (given records) = prepared.Seeded sums records
 -- the slices hold the sums and the seeded segments' records
 pub record Prepares (a : TreeAsked) (r : Prepared) (before after : Slices) : Type 0 where
   pub answer : r ≡ preparedOf (sumsRoom (a .matrix)) (unless (treeRefusal a) (length (seedsOf a)))
-  pub sums : after .sums ≡ holding (toldUnless (treeRefusal a) (sumsOf (a .matrix))) (before .sums)
-  pub rows : after .rows ≡ holding (flatRows (toldUnless (treeRefusal a) (seedsOf a))) (before .rows)
-  pub gains : after .gains ≡ holding (gainsOf (toldUnless (treeRefusal a) (seedsOf a))) (before .gains)
+  pub held : Held (toldUnless (treeRefusal a) (sumsOf (a .matrix))) (toldUnless (treeRefusal a) (seedsOf a)) before after

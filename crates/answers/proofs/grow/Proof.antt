@@ -29,7 +29,7 @@ returns : tie.Need-returns
 returns c =
     let s = c .before .before .before .before .before .before .before .before .before .before .before .before .before in
     let a = s .args in
-    grew (a .deck) (now (a .cells)) (now (a .forbidden)) _ (c .before .before .before .before .before .before .before .before .threshold .ensures) _ _ _ (c .split-points .ensures) (omega arith) (omega arith) (omega arith) (omega arith)
+    grew (a .deck) (now (a .cells)) (now (a .forbidden)) _ (c .before .before .before .before .before .before .before .before .threshold .ensures) _ _ _ _ _ (c .split-points .ensures) (omega arith) (omega arith) (omega arith) (omega arith)
 
 pub grow-spec : {M : Type 1} → statement M
 grow-spec =

@@ -4,19 +4,22 @@ use denote.Ref.{now}
 use lib.ListN.{length}
 use Rattle.scope.specs.Calls.{sumsOf, SeededAsked, seededRefusal, seededOf, seededCall}
 use Rattle.control.specs.Settings.{shortestOf}
-use Rattle.control.proofs.Follows.{answer-refused, held-refused, answer-given, held-given}
-use Rattle.stored.specs.Flat.{flatRows, gainsOf}
-use Rattle.segmentation.specs.Seeds.{seededAsked}
+use Rattle.control.proofs.Follows.{answer-refused, answer-given}
+use Rattle.segmentation.specs.Seeds.{Slices, seededAsked}
+use Rattle.segmentation.proofs.Held.{none-held, all-held}
 use Rattle.entry_mean.specs.Answers.{countOf}
 use Rattle.entry_mean.specs.declared.Count.the-variants.{Written}
 use borrow.Author.Needs.{needs}
 use Rattle.entry_segments.proofs.seeded_segments.Statement.{statement}
 use Rattle.entry_segments.proofs.seeded_segments.Tie as tie
 
+abbrev lent : tie.Start → Slices
+lent s = record { sums = now (s .args .sums); rows = now (s .args .rows); gains = now (s .args .gains) }
+
 abbrev asked : tie.Start → SeededAsked
 asked s =
     let a = s .args in
-    seededAsked (record { cells = now (a .cells); n = a .n; d = a .d }) (shortestOf (a .shortest)) (now (a .forbidden)) (now (a .layers)) (record { sums = now (a .sums); rows = now (a .rows); gains = now (a .gains) })
+    seededAsked (record { cells = now (a .cells); n = a .n; d = a .d }) (shortestOf (a .shortest)) (now (a .forbidden)) (now (a .layers)) (lent s)
 
 -- the number is that of what is asked
 number : (c : tie.After-seeded-refusal) → c .seeded-refusal .result ≡ seededRefusal (asked (c .before .before .before .before .before .before .before .before))
@@ -30,9 +33,7 @@ returns c =
     let is = number (c .before) in
     record {
       answer = ap countOf (answer-refused is (c .if1 .taken) (length (seededOf a)));
-      sums = held-refused is (c .if1 .taken) (λ l. l) (sumsOf (a .matrix)) (now (s .args .sums)) refl;
-      rows = held-refused is (c .if1 .taken) flatRows (seededOf a) (now (s .args .rows)) refl;
-      gains = held-refused is (c .if1 .taken) gainsOf (seededOf a) (now (s .args .gains)) refl;
+      held = none-held is (sumsOf (a .matrix)) (seededOf a) (lent s) (c .if1 .taken);
     }
 
 store-seeded-requires : tie.Need-store-seeded-requires
@@ -48,9 +49,7 @@ returns-2 c =
     let told = c .before .before .before .before .before .before .store-seeded .ensures in
     record {
       answer = ap Written (told .count) ∙ ap countOf (answer-given is none (length (seededOf a)));
-      sums = held-given is none (λ l. l) (sumsOf (a .matrix)) (now (s .args .sums)) (told .sums);
-      rows = held-given is none flatRows (seededOf a) (now (s .args .rows)) (told .rows);
-      gains = held-given is none gainsOf (seededOf a) (now (s .args .gains)) (told .gains);
+      held = all-held is (sumsOf (a .matrix)) (seededOf a) (lent s) none (told .held);
     }
 
 pub seeded-segments-spec : {M : Type 1} → statement M

@@ -24,7 +24,7 @@ use Rattle.lent.proofs.Arrays.{whole, fills, address, lends-array, array-back}
 use Rattle.lent.proofs.Meets.{Walked, finishes, meets}
 use Rattle.lent.proofs.Clauses.{unasked-meets}
 use Rattle.scope.specs.Asked.{Matrix, Settings}
-use Rattle.entry_tree.specs.Left.{Slices, TreeLeft, PointsLeft}
+use Rattle.entry_tree.specs.Left.{Slices, recordSlices, TreeLeft, PointsLeft}
 use Rattle.node.proofs.Data.{position, node, position-fits}
 use Rattle.node.proofs.Deals.{blanking}
 use Rattle.node.proofs.Node.without_choice.Symbol as blank-def
@@ -46,10 +46,10 @@ room = (omega arith, omega arith)
 
 -- what the tree's call says, of the nodes nothing
 told : (x : Matrix) (s : Settings) (r : Grown) (before after : Slices) → length (before .nodes) ≡ nodeRoom → TreeLeft x s r before after
-    → PointsLeft x s r (record { sums = before .sums; rows = before .rows; gains = before .gains; cuts = before .cuts }) (record { sums = after .sums; rows = after .rows; gains = after .gains; cuts = after .cuts })
+    → PointsLeft x s r (recordSlices before) (recordSlices after) (before .cuts) (after .cuts)
 told x s r before after len said =
     let a = rw len at (said .answer) in
-    record { answer = a; sums = rw len at (said .sums); rows = rw len at (said .rows); gains = rw len at (said .gains); cuts = rw len at (said .cuts); demand = said .demand }
+    record { answer = a; held = rw len at (said .held); cuts = rw len at (said .cuts); demand = said .demand }
 
 module _ {M : Type 1} (𝓤 : URA M) (H : Heap 𝓤) (A : Atoms 𝓤) (W : Given 𝓤 H A) (𝓣 : Tables 𝓤 H) (known-blank : Known 𝓤 H A W blanking (𝓣 .C #blank)) (known-tree : Known 𝓤 H A W answering (𝓣 .C #tree)) where
   walk : (xs : Args (splitting .ks)) → Walked 𝓤 H A W splitting (𝓣 .C) (𝓣 .Λ) code.function refl xs

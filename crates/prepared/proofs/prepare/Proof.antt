@@ -6,8 +6,9 @@ use lib.ListN.{length}
 use Rattle.scope.specs.Tree.{seedRecords}
 use Rattle.scope.specs.Calls.{sumsOf, sumsRoom, TreeAsked, treeRefusal}
 use Rattle.control.specs.Settings.{settingsOf}
-use Rattle.control.proofs.Follows.{answer-refused, held-refused, answer-given, held-given}
-use Rattle.stored.specs.Flat.{flatRows, gainsOf}
+use Rattle.control.proofs.Follows.{answer-refused, answer-given}
+use Rattle.segmentation.specs.Seeds.{Slices}
+use Rattle.segmentation.proofs.Held.{none-held, all-held}
 use Rattle.prepared.specs.Answers.{treeAsked, seedsOf, preparedOf}
 use Rattle.prepared.specs.declared.Prepared.the-variants.{Seeded}
 use Rattle.prepared.proofs.Clean.{tree-clean, tree-seeds}
@@ -15,10 +16,13 @@ use borrow.Author.Needs.{needs}
 use Rattle.prepared.proofs.prepare.Statement.{statement}
 use Rattle.prepared.proofs.prepare.Tie as tie
 
+abbrev lent : tie.Start → Slices
+lent s = record { sums = now (s .args .sums); rows = now (s .args .rows); gains = now (s .args .gains) }
+
 abbrev asked : tie.Start → TreeAsked
 asked s =
     let a = s .args in
-    treeAsked (record { cells = now (a .cells); n = a .n; d = a .d }) (settingsOf (a .settings) (now (a .forbidden)) (now (a .layers))) (record { sums = now (a .sums); rows = now (a .rows); gains = now (a .gains) }) (a .nodes) (a .cuts)
+    treeAsked (record { cells = now (a .cells); n = a .n; d = a .d }) (settingsOf (a .settings) (now (a .forbidden)) (now (a .layers))) (lent s) (a .nodes) (a .cuts)
 
 -- the number is that of what is asked
 number : (c : tie.After-tree-refusal) → c .tree-refusal .result ≡ treeRefusal (asked (c .before .before .before .before .before .before .before .before))
@@ -34,9 +38,7 @@ returns c =
     let is = number (c .before) in
     record {
       answer = ap (preparedOf (sumsRoom (a .matrix))) (answer-refused is (c .if1 .taken) (length (seedsOf a)));
-      sums = held-refused is (c .if1 .taken) (λ l. l) (sumsOf (a .matrix)) (now (s .args .sums)) refl;
-      rows = held-refused is (c .if1 .taken) flatRows (seedsOf a) (now (s .args .rows)) refl;
-      gains = held-refused is (c .if1 .taken) gainsOf (seedsOf a) (now (s .args .gains)) refl;
+      held = none-held is (sumsOf (a .matrix)) (seedsOf a) (lent s) (c .if1 .taken);
     }
 
 store-seeded-requires : tie.Need-store-seeded-requires
@@ -58,9 +60,7 @@ returns-2 c =
           ap (λ (k : ℕ). Seeded k (c .before .before .before .before .before .before .before .store-seeded .result)) (c .sums-len .ensures)
           ∙ ap (Seeded (sumsRoom (a .matrix))) (told .count)
           ∙ ap (preparedOf (sumsRoom (a .matrix))) (answer-given is none (length (seedsOf a)));
-      sums = held-given is none (λ l. l) (sumsOf (a .matrix)) (now (s .args .sums)) (told .sums);
-      rows = held-given is none flatRows (seedsOf a) (now (s .args .rows)) (told .rows);
-      gains = held-given is none gainsOf (seedsOf a) (now (s .args .gains)) (told .gains);
+      held = all-held is (sumsOf (a .matrix)) (seedsOf a) (lent s) none (told .held);
     }
 
 pub prepare-spec : {M : Type 1} → statement M

@@ -59,9 +59,11 @@ returns c =
     let same = ap (λ (l : List Float). storedOver l (a .matrix .d) (a .shortest) (a .forbidden) (seeded (a .matrix .n) (a .layers))) part in
     record {
       count = told .0 ∙ ap length same;
-      sums = sums ∙ sums-are (a .matrix) (a .sums) (f .sums) (now (lent .sums));
-      rows = told .1 .0 ∙ ap (λ (x : List Record). holding (flatRows x) (now (lent .rows))) same;
-      gains = told .1 .1 ∙ ap (λ (x : List Record). holding (gainsOf x) (now (lent .gains))) same;
+      held = record {
+        sums-are = sums ∙ sums-are (a .matrix) (a .sums) (f .sums) (now (lent .sums));
+        rows-are = told .1 .0 ∙ ap (λ (x : List Record). holding (flatRows x) (now (lent .rows))) same;
+        gains-are = told .1 .1 ∙ ap (λ (x : List Record). holding (gainsOf x) (now (lent .gains))) same;
+      };
     }
 
 pub store-seeded-spec : {M : Type 1} → statement M

@@ -15,13 +15,13 @@ returns : tie.Need-returns
 returns c =
     let f = c .before .before .before .before .before .before .before .before .before .seeded-segments .ensures in
     let a = count-given (seededCall (asked (c .before .before .before .before .before .before .before .before .before .before .before .before .before .before .before .before .before .before .before)) .answer) (c .before .answer .given .0 .0) (sym (c .before .answer .given .1) ∙ f .answer) in
-    record { number = rw a; sums = f .sums; rows = f .rows; gains = f .gains; count = rw a }
+    record { number = rw a; held = f .held; count = rw a }
 
 returns-2 : tie.Need-returns-2
 returns-2 c =
     let f = c .before .before .before .before .before .before .before .before .before .seeded-segments .ensures in
     let a = count-refused (seededCall (asked (c .before .before .before .before .before .before .before .before .before .before .before .before .before .before .before .before .before .before .before)) .answer) (c .before .answer2 .given .0 .0) (sym (c .before .answer2 .given .1) ∙ f .answer) in
-    record { number = rw a; sums = f .sums; rows = f .rows; gains = f .gains; count = rw a }
+    record { number = rw a; held = f .held; count = rw a }
 
 pub changeforest-seeded-segments-spec : {M : Type 1} → statement M
 changeforest-seeded-segments-spec =
