@@ -1,5 +1,6 @@
-/* The marked cases of document 01 and each refusal, through the C functions: one line for each call, held to marked.stdout. Every array
-   that is written is lent three entries longer than its room; `touched` is printed where more was written than was told. */
+/* The marked cases of document 01 and each refusal, through the C functions: one line for each call, held to marked.stdout. Arrays that
+   are written are mostly lent longer than their room, some exactly as long, and shorter where 7 is to be given; more stands behind each.
+   `touched` is printed where an entry that was not told, lent or not, is not as it was. */
 #include <inttypes.h>
 #include <stdio.h>
 #include <string.h>
@@ -102,8 +103,9 @@ static void segments(const char *name, size_t n, const double *layers, size_t la
     end(no);
 }
 
-/* B = 19 for the longest run here, T = 7 at most. */
-static void tree(const char *name, const double *cells, size_t n, double threshold, const double *layers, size_t layers_len, size_t room)
+/* B = 13 for the longest run here, T = 3 at most. */
+static void tree(const char *name, const double *cells, size_t n, double threshold, const double *layers, size_t layers_len, size_t room,
+                 size_t counts_len)
 {
     double sums[ROOM], gains[ROOM];
     size_t rows[2 * ROOM], cuts[ROOM], counts[4] = {77, 77, 77, 77};
@@ -114,7 +116,7 @@ static void tree(const char *name, const double *cells, size_t n, double thresho
     fill_rows(rows + ROOM);
     fill_rows(cuts);
     uint32_t no = changeforest_tree(cells, n, n, 1, 1, threshold, none, 0, layers, layers_len, sums, n + 1 + SPARE, rows, 2 * ROOM, gains,
-                                    ROOM, nodes, room, cuts, ROOM, counts, 3);
+                                    ROOM, nodes, room, cuts, ROOM, counts, counts_len);
     size_t told = no == 0 ? counts[0] : 0;
     printf("%s %zu %zu %zu %zu nodes", name, counts[0], counts[1], counts[2], counts[3]);
     for (size_t i = 0; i < told; i++) {
@@ -226,9 +228,9 @@ int main(void)
     gain("M6 at 2", m6, LEN(m6), 0, 5, 2);
     gain("M6 at 3", m6, LEN(m6), 0, 5, 3);
     search("M6", m6, LEN(m6), 1, 5);
-    tree("M7", m7, LEN(m7), 10, layerless, 0, 13);
-    tree("M8", m8, LEN(m8), -1, layerless, 0, 7);
-    tree("M7 with a layer", m7, LEN(m7), 10, half, 1, 13);
+    tree("M7", m7, LEN(m7), 10, layerless, 0, 13, 3);
+    tree("M8", m8, LEN(m8), -1, layerless, 0, 7, 4);
+    tree("M7 with a layer", m7, LEN(m7), 10, half, 1, 13, 3);
     predict("M9", m9, LEN(m9), 4, 2);
     order("M9 ordering", m9, LEN(m9), 16);
     test("M10", 1, m10, LEN(m10), 0.05);
@@ -248,8 +250,10 @@ int main(void)
     search("infinite", infinite, LEN(infinite), 1, 4);
     candidates("odd list", 10, 3, odd, LEN(odd), 10, 4);
     segments("layer of 1", 20, one, 1);
-    tree("NaN threshold", m8, LEN(m8), infinite[1] - infinite[1], layerless, 0, 7);
-    tree("short nodes", m8, LEN(m8), -1, layerless, 0, 6);
+    tree("NaN threshold", m8, LEN(m8), infinite[1] - infinite[1], layerless, 0, 7, 2);
+    tree("short nodes", m8, LEN(m8), -1, layerless, 0, 6, 3);
+    tree("short counts", m8, LEN(m8), -1, layerless, 0, 7, 2);
+    tree("no counts", m8, LEN(m8), -1, layerless, 0, 7, 0);
     candidates("short", 10, 3, none, 0, 10, 3);
     order("short ordering", m9, LEN(m9), 15);
     gain("split past stop", m6, LEN(m6), 0, 3, 4);

@@ -8,10 +8,11 @@
    - an array is passed as a pointer and its length in entries: the pointer is not null (not even where the length is 0), is aligned
      for its type, and that many entries lie behind it;
    - the entries of an array, and what an output points to, are initialised; a bool is 0 or 1;
-   - an array that is written overlaps no other array or output of the call, and an output no other output. Arrays that are only read
-     may overlap;
-   - the stack has room: 16 KiB, and for changeforest_tree 1 KiB more for each level of the tree, of which there are at most
-     floor((n-1)/m)+1. So 5 MiB are always enough, and a thread may have less.
+   - an array that is written, and an output, overlap no other array and no other output of the call. Arrays that are only read may
+     overlap each other;
+   - the stack has room: 16 KiB; for changeforest_permutation_test 80 KiB more where the first curve is longer than 4,096 (it is then
+     refused); for changeforest_tree 1 KiB more for each level of the tree, of which there are at most the greater of 1 and
+     floor((n-1)/m). So 5 MiB are always enough, and a thread may have less.
    Every other value of the arguments is allowed, and is answered or refused.
 
    A call allocates nothing, keeps no pointer, and has no state: calls on memory of their own may run at the same time.
@@ -96,9 +97,9 @@ struct changeforest_node {
 
 /* The tree of the run: a segment is cut at its choice's split where the choice's gain exceeds threshold, and then both parts are grown.
    The nodes in preorder into nodes, the rows that are cut from left to right into cuts; the records, those of the seeded segments first,
-   into rows and gains as by changeforest_seeded_segments. counts takes how many nodes, records and cuts there are; of three entries it
-   takes as many as it has. sums takes the matrix's prefix sums. Room: sums (n+1)*d; with T as there and B the greater of 1 and
-   2*floor((n-1)/m)-1, rows 3*(T+B), gains T+B, nodes B, cuts (B-1)/2; counts 3, which no refusal judges.
+   into rows and gains as by changeforest_seeded_segments. counts takes how many nodes, records and cuts there are. sums takes the
+   matrix's prefix sums. Room: sums (n+1)*d; with T as there and B the greater of 1 and 2*floor((n-1)/m)-1, rows 3*(T+B), gains T+B,
+   nodes B, cuts (B-1)/2; counts 3.
    Refusals: 1, 2, 3 (threshold), 4, 5, 6, 7. */
 uint32_t changeforest_tree(const double *cells, size_t cells_len, size_t n, size_t d, size_t m, double threshold,
                            const size_t *forbidden, size_t forbidden_len, const double *layers, size_t layers_len, double *sums,
@@ -111,9 +112,10 @@ uint32_t changeforest_tree(const double *cells, size_t cells_len, size_t n, size
 uint32_t changeforest_ordering(const double *cells, size_t cells_len, size_t n, size_t d, uint32_t *ordering, size_t ordering_len,
                                double *distances, size_t distances_len);
 
-/* For each row of [start, stop) the share of its k nearest neighbours there that stand at or past split, into predictions; k is the
-   whole square root of stop-start. ordering and distances are filled as by changeforest_ordering. Room: ordering n*n, distances n,
-   predictions stop-start, or 0 where start > stop. Refusals: 1, 4, 7, 8. */
+/* For each row of [start, stop), into predictions: the first of its order is dropped (which is the row itself, unless another row with
+   a lower index is at distance 0 too); of the others the first k that lie in [start, stop) are taken, and those at or past split
+   counted; the prediction is that count divided by k. k is the whole square root of stop-start. ordering and distances are filled as
+   by changeforest_ordering. Room: ordering n*n, distances n, predictions stop-start, or 0 where start > stop. Refusals: 1, 4, 7, 8. */
 uint32_t changeforest_predict(const double *cells, size_t cells_len, size_t n, size_t d, size_t start, size_t stop, size_t split,
                               uint32_t *ordering, size_t ordering_len, double *distances, size_t distances_len, double *predictions,
                               size_t predictions_len);

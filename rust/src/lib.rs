@@ -10,12 +10,14 @@
 //! # Ok::<(), haspgarnet_changeforest::Refusal>(())
 //! ```
 //!
-//! [`lent`] has every entry point over memory that the caller lends, as include/changeforest.h describes it; [`owned`] allocates the
-//! room itself. Every value of the arguments is allowed: it is answered, or refused by a number. A segment is a range of rows of the
-//! run; one that is no range of the run is refused by 8.
+//! [`lent`] has every function of include/changeforest.h over memory that the caller lends; [`owned`] allocates the room itself. Every
+//! value of the arguments is allowed: it is answered, or refused by a number. A segment is a range of rows of the run; one that is no
+//! range of the run is refused by 8.
 //!
-//! A slice hands over its own pointer and length, and `&mut` slices never overlap others: so all that the header asks of a caller holds
-//! for every use of these functions.
+//! A slice hands over its own pointer and length, and `&mut` slices never overlap others: so what the header asks of a caller's pointers
+//! and memory holds for every use of these functions. What it asks of the stack is still the caller's to see to: 16 KiB; up to 144 KiB
+//! for a tree, as one that can be deeper than 128 levels is grown on a thread of its own; 96 KiB for a permutation test whose first curve
+//! is longer than 4,096.
 
 mod answers;
 mod asked;

@@ -1,27 +1,33 @@
 //! Why a call was refused.
-use std::{error, fmt, num::NonZeroU32};
+use std::{error, fmt};
 
-/// The number of a refusal, 1 to 12; the lowest that applies. What was lent to the call is as it was.
+/// Why a call gives no answer. What was lent to it is as it was.
 #[derive(Clone, Copy, Debug, PartialEq, Eq, Hash)]
-pub struct Refusal(NonZeroU32);
+pub struct Refusal(u32);
 
 impl Refusal {
+    /// The call was not made: the system gave no thread for a tree that can be deep.
+    pub(crate) const NO_THREAD: Refusal = Refusal(0);
+
+    /// The number of the refusal, 1 to 12; the lowest that applies. 0 where the library was not called, since the system gave no thread
+    /// for a tree that can be deep.
     pub fn number(self) -> u32 {
-        self.0.get()
+        self.0
     }
 }
 
 /// A call's number as a result: the value where it is 0.
 pub(crate) fn unless<T>(number: u32, value: T) -> Result<T, Refusal> {
-    match NonZeroU32::new(number) {
-        None => Ok(value),
-        Some(number) => Err(Refusal(number)),
+    match number {
+        0 => Ok(value),
+        number => Err(Refusal(number)),
     }
 }
 
 impl fmt::Display for Refusal {
     fn fmt(&self, f: &mut fmt::Formatter) -> fmt::Result {
         let why = match self.number() {
+            0 => "not called: no thread for a deep tree",
             1 => "n or d outside its size, or the matrix is not n*d",
             2 => "m outside its size, or a relative length not strictly between 0 and 0.5",
             3 => "the threshold is NaN, or alpha not strictly between 0 and 1",

@@ -16,7 +16,8 @@ use Rattle.scope.specs.Tree.{Run, Tree, seedRecords, treeOf, recordsOf, nodeCou
 use Rattle.scope.specs.Calls.{countsOf, treeTests, treeRefusal, treeCall}
 use Rattle.scope.specs.Program.{sheetText, judgedText}
 use Rattle.scope.proofs.Never.{never}
-use Rattle.control.proofs.Sizes.{matrix, inside}
+use Rattle.scope.proofs.Candidates.{not-outside}
+use Rattle.control.proofs.Sizes.{matrix}
 use Rattle.control.proofs.Clean.{passed}
 use Rattle.stored.specs.Flat.{flatRows, gainsOf, recordsIn}
 use Rattle.stored.proofs.Flat.{records-told}
@@ -98,7 +99,7 @@ module _ (g : Given) (cells : List Float) (forbidden : List ℕ) (judged : given
         let p = passed (treeTests (record { matrix = matrixHeld g cells; settings = settingsHeld g forbidden; room = lent })) tt free in
         record {
           rows = matrix 4096 (matrixHeld g cells .cells) (g .n) (g .d) (p .0) .rows .0;
-          least = inside 4096 (g .m) (p .1 .0) .0;
+          least = not-outside 4096 (g .m) (p .1 .0) .0;
           nodes = let h = ltb-false 509 (0 + mostNodes (g .n) (record { m = g .m })) (p .1 .1 .1 .1 .1 .1 .1 .0) in omega arith;
         }
 

@@ -21,7 +21,7 @@ use Rattle.scope.specs.Calls.{treeRefusal}
 use Rattle.scope.specs.Asked.{Shortest}
 use Rattle.scope.specs.Program.{Deck, deckTests, deckRefusal, wrongDeck, wrongPairs, isReading, deckMatrix, deckSettings}
 use Rattle.scope.proofs.Members.{first-of, second-of}
-use Rattle.control.proofs.Sizes.{neither, inside}
+use Rattle.scope.proofs.Candidates.{or-false, not-outside}
 use Rattle.control.proofs.Clean.{passed}
 use Rattle.line.specs.declared.Given.{Given}
 use Rattle.limits.specs.Limits.{wrongGiven, wrongHeld, givenRefusal}
@@ -36,10 +36,10 @@ pub record Sized (n d count : ℕ) : Type 0 where
 
 sized : (n d count : ℕ) → (outside 256 n || outside mostColumns d || ltb 2048 (n * d) || not (eqb count (n * d))) ≡ false → Sized n d count
 sized n d count e =
-    let (below, exact) = neither (outside 256 n || outside mostColumns d || ltb 2048 (n * d)) (not (eqb count (n * d))) e in
-    let (both, product) = neither (outside 256 n || outside mostColumns d) (ltb 2048 (n * d)) below in
-    let (r, c) = neither (outside 256 n) (outside mostColumns d) both in
-    record { rows = inside 256 n r; columns = inside mostColumns d c; size = ltb-false 2048 (n * d) product; filled = eqb-true count (n * d) (not-false _ exact) }
+    let (below, exact) = or-false (outside 256 n || outside mostColumns d || ltb 2048 (n * d)) (not (eqb count (n * d))) e in
+    let (both, product) = or-false (outside 256 n || outside mostColumns d) (ltb 2048 (n * d)) below in
+    let (r, c) = or-false (outside 256 n) (outside mostColumns d) both in
+    record { rows = not-outside 256 n r; columns = not-outside mostColumns d c; size = ltb-false 2048 (n * d) product; filled = eqb-true count (n * d) (not-false _ exact) }
 
 -- ---- what is kept of a deck
 pub record GivenClean (g : Given) : Type 0 where
@@ -50,7 +50,7 @@ pub given-clean : (g : Given) (forbidden : List ℕ) → givenRefusal g forbidde
 unfolding givenRefusal wrongGiven wrongHeld
 given-clean g forbidden e =
     let p = passed (test (wrongGiven g) 1 ∷ no2 (record { m = g .m }) ∷ no3 (ofBits binary64 (g .threshold)) ∷ test (g .wide) 4 ∷ test (wrongHeld (g .pairs) forbidden) 5 ∷ []) tt e in
-    let held = neither (ltb 64 (g .pairs)) (not (wellPaired (take (2 * g .pairs) forbidden))) (p .1 .1 .1 .1 .0) in
+    let held = or-false (ltb 64 (g .pairs)) (not (wellPaired (take (2 * g .pairs) forbidden))) (p .1 .1 .1 .1 .0) in
     record { sizes = sized (g .n) (g .d) (g .cells) (p .0); pairs = ltb-false 64 (g .pairs) (held .0) }
 
 -- ---- a cell is finite
@@ -82,10 +82,10 @@ pub deck-clean : (deck : Deck) → deckRefusal deck ≡ 0 → DeckClean deck
 unfolding deckRefusal wrongDeck wrongPairs
 deck-clean deck e =
     let p = passed (deckTests deck) tt e in
-    let pairs = neither (ltb (2 * 64) (length (deck .forbidden))) (not (wellPaired (deck .forbidden))) (p .1 .1 .1 .1 .0) in
+    let pairs = or-false (ltb (2 * 64) (length (deck .forbidden))) (not (wellPaired (deck .forbidden))) (p .1 .1 .1 .1 .0) in
     record {
       sizes = sized (deck .n) (deck .d) (length (deck .cells)) (p .0);
-      length-fits = inside 4096 (deck .m) (p .1 .0);
+      length-fits = not-outside 4096 (deck .m) (p .1 .0);
       number = p .1 .1 .0;
       narrow = not-false _ (p .1 .1 .1 .0);
       few = ltb-false 128 (length (deck .forbidden)) (pairs .0);

@@ -1,18 +1,12 @@
 -- The guesses of a definition are at most three, so the struct holds them all. Assumes nothing.
-use mathlib.Core.Path.{_≡_, sym, ap, _∙_}
-use mathlib.Core.Bool.{Bool, true, false, cond}
+use mathlib.Core.Path.{_≡_, refl, sym, ap, _∙_}
 use mathlib.Core.List.{List, [], _∷_}
-use mathlib.Core.Option.{Option, none, some}
-use Prim.Native.Nat.{ℕ, zero, suc, _≤_}
+use Prim.Native.Nat.{ℕ, _≤_}
 use native.Mathlib.Omega.{arith}
-use lib.Dec.{ltb}
 use lib.ListN.{length}
-use Rattle.scope.specs.Lists.{keep, select}
-use Rattle.scope.specs.Asked.{Shortest}
-use Rattle.scope.specs.Refusals.{Answer, refused, given, unless, firstOf}
-use Rattle.scope.specs.Candidates.{candidates}
-use Rattle.scope.specs.Curves.{isMember, guesses, aboveLast, rising, quarters, quartersOf}
-use Rattle.scope.specs.Calls.{GuessesAsked, guessesTests, guessesAnswer}
+use Rattle.scope.specs.Refusals.{Answer, refused, given}
+use Rattle.scope.specs.Calls.{GuessesAsked, guessesAnswer}
+use Rattle.scope.proofs.Guesses.{guesses-allowed}
 use Rattle.scope.proofs.Never.{never}
 use Rattle.two_step_search.specs.Guessed.{rowsOf, guessesIn}
 use Rattle.two_step_search.specs.declared.Guesses.{Guesses}
@@ -23,40 +17,12 @@ abbrev pub Few : Answer (List ℕ) → Type 0
 Few (refused k) = Unit {0}
 Few (given l) = length l ≤ 3
 
--- one more row, kept or not
-kept : (b : Bool) (x : ℕ) (l : List ℕ) (k : ℕ) → length l ≤ k → length (keep b x l) ≤ suc k
-kept true x l k h = omega arith
-kept false x l k h = omega arith
-
-picked : (b : Bool) (x : ℕ) (l o : List ℕ) (k : ℕ) → length l ≤ k → length o ≤ k → length (cond b (x ∷ l) o) ≤ suc k
-picked true x l o k h g = omega arith
-picked false x l o k h g = omega arith
-
-above : (last : ℕ) (l : List ℕ) → length (aboveLast last l) ≤ length l
-above last [] = omega arith
-above last (x ∷ l) = picked (ltb last x) x (aboveLast x l) (aboveLast last l) (length l) (above x l) (above last l)
-
-selected : (p : ℕ → Bool) (l : List ℕ) → length (select p l) ≤ length l
-unfolding select
-selected p [] = omega arith
-selected p (x ∷ l) = kept (p x) x (select p l) (length l) (selected p l)
-
-risen : (l : List ℕ) → length (rising l) ≤ length l
-risen [] = omega arith
-risen (x ∷ l) = omega (arith, above x l)
-
-few : (short : Shortest) (f : Option (List ℕ)) (a b : ℕ) → length (guesses short f a b) ≤ 3
-unfolding guesses
-few short none a b = selected (λ x. isMember x (candidates short [] a b)) (quarters a b)
-few short (some ps) a b = risen (quartersOf (candidates short ps a b))
-
-few-unless : (k : ℕ) (l : List ℕ) → length l ≤ 3 → Few (unless k l)
-few-unless zero l h = h
-few-unless (suc k) l h = tt
-
 pub few-answered : (a : GuessesAsked) → Few (guessesAnswer a)
-unfolding guessesAnswer
-few-answered a = few-unless (firstOf (guessesTests a)) (guesses (a .shortest) (a .forbidden) (a .start) (a .stop)) (few (a .shortest) (a .forbidden) (a .start) (a .stop))
+few-answered a = go (guessesAnswer a) refl
+  where
+    go : (b : Answer (List ℕ)) → guessesAnswer a ≡ b → Few b
+    go (refused k) e = tt
+    go (given l) e = guesses-allowed a l e .few
 
 -- what the struct of a list tells of it
 heard : (l : List ℕ) → length l ≤ 3 → (g : Guesses) → guessesIn l ≡ g → (l ≡ rowsOf g) × (g .count ≡ length l)

@@ -1,6 +1,6 @@
 -- What holds where a size is not refused, and what is told where a number is. Assumes nothing.
 use mathlib.Core.Path.{_≡_, refl}
-use mathlib.Core.Bool.{Bool, true, false, not, _||_, true≢false}
+use mathlib.Core.Bool.{false, not, _||_}
 use mathlib.Core.List.{List, []}
 use Prim.Native.Nat.{ℕ, zero, suc, _*_, _^_, _≤_}
 use native.Mathlib.Nat.{mul-le-mul}
@@ -11,18 +11,10 @@ use lib.IntN.{pos}
 use lib.Ieee.{Float, inFloat, binary64}
 use lib.ListN.{length}
 use Rattle.scope.specs.Refusals.{refused, unless, toldUnless, outside, wrongMatrix, wrongSegment, wrongSplit}
+use Rattle.scope.proofs.Candidates.{or-false, not-outside}
 
 pub product-small : (n d : ℕ) → n ≤ 4097 → d ≤ 64 → n * d ≤ 262208
 product-small n d a b = mul-le-mul a b
-
--- ---- of two tests joined by "or", neither holds
-pub neither : (s t : Bool) → (s || t) ≡ false → (s ≡ false) × (t ≡ false)
-neither true t e = absurd (true≢false e)
-neither false t e = (refl, e)
-
-pub inside : (most v : ℕ) → outside most v ≡ false → (1 ≤ v) × (v ≤ most)
-unfolding outside
-inside most v e = let (a, b) = neither (ltb v 1) (ltb most v) e in (ltb-false v 1 a, ltb-false most v b)
 
 -- a matrix that is not refused
 pub record Matrix (most : ℕ) (cells : List Float) (n d : ℕ) : Type 0 where
@@ -33,17 +25,17 @@ pub record Matrix (most : ℕ) (cells : List Float) (n d : ℕ) : Type 0 where
 pub matrix : (most : ℕ) (cells : List Float) (n d : ℕ) → wrongMatrix most cells n d ≡ false → Matrix most cells n d
 unfolding wrongMatrix
 matrix most cells n d e =
-    let (a, b) = neither (outside most n || outside 64 d) (not (eqb (length cells) (n * d))) e in
-    let (i, j) = neither (outside most n) (outside 64 d) a in
-    record { rows = inside most n i; columns = inside 64 d j; long = eqb-true (length cells) (n * d) (not-false _ b) }
+    let (a, b) = or-false (outside most n || outside 64 d) (not (eqb (length cells) (n * d))) e in
+    let (i, j) = or-false (outside most n) (outside 64 d) a in
+    record { rows = not-outside most n i; columns = not-outside 64 d j; long = eqb-true (length cells) (n * d) (not-false _ b) }
 
 pub segment : (n start stop : ℕ) → wrongSegment n start stop ≡ false → (start ≤ stop) × (stop ≤ n)
 unfolding wrongSegment
-segment n start stop e = let (a, b) = neither (ltb stop start) (ltb n stop) e in (ltb-false stop start a, ltb-false n stop b)
+segment n start stop e = let (a, b) = or-false (ltb stop start) (ltb n stop) e in (ltb-false stop start a, ltb-false n stop b)
 
 pub split-in : (start stop split : ℕ) → wrongSplit start stop split ≡ false → (start ≤ split) × (split ≤ stop)
 unfolding wrongSplit
-split-in start stop x e = let (a, b) = neither (ltb x start) (ltb stop x) e in (ltb-false x start a, ltb-false stop x b)
+split-in start stop x e = let (a, b) = or-false (ltb x start) (ltb stop x) e in (ltb-false x start a, ltb-false stop x b)
 
 -- ---- a number above 0 is the answer, and nothing is told
 pub unless-refused : {A : Type 0} (k : ℕ) (a : A) → (k ≡ 0 → ⊥) → unless k a ≡ refused k

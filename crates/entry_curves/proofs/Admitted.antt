@@ -8,7 +8,7 @@ use lib.ListN.{length}
 use Rattle.scope.specs.Refusals.{firstOf, mostLength, mostCurves, mostPermutations}
 use Rattle.scope.specs.Permutations.{wrongPermutations}
 use Rattle.scope.specs.Calls.{wrongLengths, firstLength, CurveAsked, curveTests, curveRefusal, PermutationAsked, permutationTests}
-use Rattle.control.proofs.Sizes.{inside}
+use Rattle.scope.proofs.Candidates.{not-outside}
 use Rattle.control.proofs.Clean.{passed}
 use Rattle.permutations.proofs.Passes.{right-all}
 use Rattle.permutation_test.proofs.Counted.{right-lengths}
@@ -30,8 +30,8 @@ pub permutation-admitted : (a : PermutationAsked) → firstOf (permutationTests 
 permutation-admitted a e =
     let t = passed (permutationTests a) tt e in
     record {
-      count = inside mostCurves (a .k) (t .1 .1 .1 .1 .1 .0);
-      margin = (inside mostLength (a .shortest .m) (t .0) .0, leb-false (firstLength (a .curves)) (2 * a .shortest .m) (t .1 .1 .1 .0));
+      count = not-outside mostCurves (a .k) (t .1 .1 .1 .1 .1 .0);
+      margin = (not-outside mostLength (a .shortest .m) (t .0) .0, leb-false (firstLength (a .curves)) (2 * a .shortest .m) (t .1 .1 .1 .0));
       lengths = t .1 .1 .1 .1 .1 .1 .0;
       true-ones = t .1 .1 .1 .1 .0;
       few = right-all (a .P) (firstLength (a .curves)) (a .permutations) (t .1 .1 .1 .1 .0) .0;

@@ -8,7 +8,8 @@ use Rattle.scope.specs.Refusals.{firstOf, no9}
 use Rattle.scope.specs.Candidates.{rangeSize, no10}
 use Rattle.scope.specs.Calls.{CandidatesAsked, candidatesTests, candidatesRefusal, GainAsked, gainTests, gainRefusal, SearchAsked, searchTests, searchRefusal}
 use Rattle.change_in_mean.proofs.Room.{SumsClean, sums-clean}
-use Rattle.control.proofs.Sizes.{matrix, inside, segment, split-in}
+use Rattle.scope.proofs.Candidates.{not-outside}
+use Rattle.control.proofs.Sizes.{matrix, segment, split-in}
 use Rattle.control.proofs.Clean.{passed}
 
 -- ---- candidates
@@ -22,12 +23,12 @@ pub candidates-clean : (a : CandidatesAsked) → candidatesRefusal a ≡ 0 → C
 unfolding candidatesRefusal
 candidates-clean a e =
     let p = passed (candidatesTests a) tt e in
-    let rows = inside 4096 (a .n) (p .0) in
+    let rows = not-outside 4096 (a .n) (p .0) in
     let seg = segment (a .n) (a .start) (a .stop) (p .1 .1 .1 .1 .0) in
     record {
       ordered = seg .0;
       within = omega arith;
-      length-fits = inside 4096 (a .shortest .m) (p .1 .0) .1;
+      length-fits = not-outside 4096 (a .shortest .m) (p .1 .0) .1;
       fits = ltb-false (a .room) (rangeSize (a .shortest) (a .start) (a .stop)) (p .1 .1 .1 .0);
     }
 
@@ -61,7 +62,7 @@ search-clean a e =
     let p = passed (searchTests a) tt e in
     record {
       sums = sums-clean (a .matrix) (a .room) (p .0) (p .1 .1 .1 .1 .0);
-      length-fits = inside 4096 (a .shortest .m) (p .1 .0) .1;
+      length-fits = not-outside 4096 (a .shortest .m) (p .1 .0) .1;
       seg = segment (a .matrix .n) (a .start) (a .stop) (p .1 .1 .1 .1 .1 .0);
       some = rw (p .1 .1 .1 .1 .1 .1 .0, p .1 .1 .1 .1 .1 .1 .1 .0);
     }

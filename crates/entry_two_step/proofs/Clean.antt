@@ -13,8 +13,9 @@ use Rattle.scope.specs.Lists.{isEmpty}
 use Rattle.scope.specs.Refusals.{firstOf}
 use Rattle.scope.specs.Candidates.{candidates}
 use Rattle.scope.specs.Calls.{PickAsked, pickTests, listed, GuessesAsked, guessesTests}
-use Rattle.scope.proofs.Candidates.{refusal-9-10}
-use Rattle.control.proofs.Sizes.{inside, segment}
+use Rattle.scope.proofs.Guesses.{some-long}
+use Rattle.scope.proofs.Candidates.{refusal-9-10, not-outside}
+use Rattle.control.proofs.Sizes.{segment}
 use Rattle.control.proofs.Clean.{passed, answers}
 use Rattle.entry_two_step.specs.Answers.{listGiven}
 
@@ -24,10 +25,6 @@ pub record GuessesClean (a : GuessesAsked) : Type 0 where
   pub within : a .stop ≤ 4096
   pub length-fits : a .shortest .m ≤ 4096
   pub some-row : 0 < length (candidates (a .shortest) (listed (a .forbidden)) (a .start) (a .stop))
-
-some-long : {A : Type 0} (l : List A) → isEmpty l ≡ false → 0 < length l
-some-long [] e = absurd (true≢false e)
-some-long (x ∷ l) e = omega arith
 
 nine-ten : (c : Bool) → _≡_ {A = ℕ} (cond c 9 10) 0 → ⊥
 nine-ten true z = omega arith
@@ -40,12 +37,12 @@ not-empty false c h = refl
 pub guesses-clean : (a : GuessesAsked) → firstOf (guessesTests a) ≡ 0 → GuessesClean a
 guesses-clean a e =
     let p = passed (guessesTests a) tt e in
-    let rows = inside 4096 (a .n) (p .0) in
+    let rows = not-outside 4096 (a .n) (p .0) in
     let seg = segment (a .n) (a .start) (a .stop) (p .1 .1 .1 .0) in
     let rest = drop 4 (guessesTests a) in
     let cs = candidates (a .shortest) (listed (a .forbidden)) (a .start) (a .stop) in
     let some-left = not-empty (isEmpty cs) (leb (a .stop - a .start) (2 * a .shortest .m)) (sym (refusal-9-10 (a .shortest) (listed (a .forbidden)) (a .start) (a .stop)) ∙ sym (answers rest (false ∷ false ∷ []) (p .1 .1 .1 .1))) in
-    record { ordered = seg .0; within = omega arith; length-fits = inside 4096 (a .shortest .m) (p .1 .0) .1; some-row = some-long cs some-left }
+    record { ordered = seg .0; within = omega arith; length-fits = not-outside 4096 (a .shortest .m) (p .1 .0) .1; some-row = some-long cs some-left }
 
 -- what is looked at of a list that is given or not
 pub listed-is : (given : Bool) (l : List ℕ) → take (cond given (length l) 0) l ≡ listed (listGiven given l)

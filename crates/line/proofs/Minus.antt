@@ -5,30 +5,17 @@ use mathlib.Core.Option.{some}
 use Prim.Native.Nat.{ℕ, zero, suc, _+_, _*_, _^_}
 use lib.Dec.{ltb, leb, leb·suc-suc}
 use lib.IntN.{pos, negsuc}
-use lib.Ieee.{inf, Format, binary64, prec, emax, low, odd, units, neg, ofInt}
-use lib.Ieee.Fits.{round-is}
+use lib.Ieee.{Format, binary64, neg, ofInt}
 use borrow.Author.Tests.{lt-ltb, le-ltb, leb-true, leb-false}
 use Rattle.scope.specs.Text.{negative}
+use Rattle.scope.proofs.Negated.{neg-round}
 use Rattle.token.proofs.Tested.{either}
 use Rattle.line.specs.Walk.{cellAt, cellEnd}
 use Rattle.line.specs.declared.Given.{Given}
 
-neg-odd : (d q k l : ℕ) → neg (odd d false q k l) ≡ odd d true q k l
-unfolding neg odd
-neg-odd d zero k l = refl
-neg-odd d (suc q) k l = refl
-
-neg-units : (f : Format) (q k : ℕ) → neg (units f false q k) ≡ units f true q k
-unfolding units neg
-neg-units f q k = go (ltb (q * 2 ^ k) (2 ^ (low f + suc (emax f))))
-  where
-    go : (b : Bool) → neg (cond b (odd (suc (prec f)) false q k (low f)) (inf false)) ≡ cond b (odd (suc (prec f)) true q k (low f)) (inf true)
-    go true = neg-odd (suc (prec f)) q k (low f)
-    go false = refl
-
 pub negated : (f : Format) (n : ℕ) → neg (ofInt f (pos (suc n))) ≡ ofInt f (negsuc n)
 unfolding ofInt
-negated f n = ap neg (round-is f false (suc n) 1) ∙ neg-units f _ _ ∙ sym (round-is f true (suc n) 1)
+negated f n = neg-round f true (suc n) 1
 
 -- above n is not up to n
 pub above : (n v : ℕ) → ltb n v ≡ not (leb v n)

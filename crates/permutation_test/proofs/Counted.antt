@@ -13,7 +13,7 @@ use Rattle.scope.specs.Lists.{every}
 use Rattle.scope.specs.Refusals.{mostLength}
 use Rattle.scope.specs.Permutations.{block, exceeds, counter}
 use Rattle.scope.specs.Calls.{wrongLengths}
-use Rattle.control.proofs.Sizes.{neither, inside}
+use Rattle.scope.proofs.Candidates.{or-false, not-outside}
 use Rattle.classifier_gain.specs.Lent.{lent, Curves}
 use Rattle.scope.proofs.Every.{every-at}
 
@@ -39,7 +39,7 @@ module _ (m L : ℕ) (bases : List Float) (curves : List (List Float)) (maximum 
 pub right-lengths : (k L : ℕ) (deltas0 deltas1 deltas2 : List Float) → 1 ≤ k → k ≤ 3 → wrongLengths L (lent k deltas0 deltas1 deltas2) ≡ false → Curves k L deltas0 deltas1 deltas2 × (L ≤ mostLength)
 unfolding wrongLengths
 right-lengths k L deltas0 deltas1 deltas2 some most e =
-    let (same, size) = neither (not (every (λ c. eqb (length c) L) (lent k deltas0 deltas1 deltas2))) _ e in
+    let (same, size) = or-false (not (every (λ c. eqb (length c) L) (lent k deltas0 deltas1 deltas2))) _ e in
     let at = every-at (λ c. eqb (length c) L) k (deltas0 ∷ deltas1 ∷ deltas2 ∷ []) [] (not-false _ same) in (
       record {
         some = some;
@@ -48,5 +48,5 @@ right-lengths k L deltas0 deltas1 deltas2 some most e =
         length1 = λ h. eqb-true (length deltas1) L (at 1 h (omega arith));
         length2 = λ h. eqb-true (length deltas2) L (at 2 h (omega arith));
       },
-      inside mostLength L size .1,
+      not-outside mostLength L size .1,
     )

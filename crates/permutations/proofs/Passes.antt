@@ -16,7 +16,7 @@ use Rattle.scope.specs.Refusals.{mostPermutations}
 use Rattle.scope.proofs.Lists.{upward-are}
 use Rattle.scope.proofs.Members.{second-of, every-of, of-every}
 use Rattle.permutations.specs.Marks.{Apart, PassedAll, allTrue}
-use Rattle.control.proofs.Sizes.{neither}
+use Rattle.scope.proofs.Candidates.{or-false}
 use Rattle.permutations.proofs.Times.{past, refute, each-once}
 
 -- permutation number q of P lies within the list
@@ -88,8 +88,8 @@ module _ (P L : ℕ) (permutations : List ℕ) where
   pub right-all : wrongPermutations P L permutations ≡ false → (P ≤ mostPermutations) × (length permutations ≡ P * L) × (allTrue P L permutations ≡ true)
   unfolding wrongPermutations
   right-all e =
-      let (rest, all) = neither (ltb mostPermutations P || not (eqb (length permutations) (P * L))) _ e in
-      let (few, count) = neither (ltb mostPermutations P) _ rest in
+      let (rest, all) = or-false (ltb mostPermutations P || not (eqb (length permutations) (P * L))) _ e in
+      let (few, count) = or-false (ltb mostPermutations P) _ rest in
       (ltb-false mostPermutations P few, eqb-true (length permutations) (P * L) (not-false _ count), not-false _ all)
 
   -- there are none

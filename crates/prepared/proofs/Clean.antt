@@ -9,7 +9,7 @@ use Rattle.scope.specs.Layers.{layersTotal}
 use Rattle.scope.specs.Tree.{mostNodes}
 use Rattle.scope.specs.Calls.{SeededAsked, seededRefusal, TreeAsked, treeTests, treeRefusal}
 use Rattle.change_in_mean.proofs.Room.{SumsClean, sums-clean}
-use Rattle.control.proofs.Sizes.{inside}
+use Rattle.scope.proofs.Candidates.{not-outside}
 use Rattle.control.proofs.Clean.{passed}
 
 -- B
@@ -31,7 +31,7 @@ tree-clean a e =
     let room = p .1 .1 .1 .1 .1 .1 in
     record {
       sums = sums-clean (a .matrix) (a .room .sums) (p .0) (room .0);
-      lengths = inside 4096 (a .settings .shortest .m) (p .1 .0);
+      lengths = not-outside 4096 (a .settings .shortest .m) (p .1 .0);
       layers-right = p .1 .1 .1 .1 .1 .0;
       records-fit = ltb-false (a .room .records) (layersTotal (a .settings .layers) + most a) (room .1 .0);
       nodes-fit = ltb-false (a .room .nodes) (most a) (room .1 .1 .0);

@@ -13,6 +13,7 @@ use lib.Ieee.Fits.{round-is, up-pos}
 use lib.Ieee.Compare.{differs-from-itself}
 use Rattle.scope.specs.Floats.{+0}
 use Rattle.scope.specs.Rounding.{nearestOf, toF32}
+use Rattle.scope.proofs.Negated.{neg-round}
 
 pub nearest-nan : (x : Float) → ne x x ≡ true → nan ≡ toF32 x
 unfolding nearestOf
@@ -26,22 +27,6 @@ negative-above (inf true) h = refl
 negative-above (inf false) h = absurd (false≢true h)
 negative-above (fin true m e) h = lt-ltb (0 * down e) (m * up e * 1) (omega (arith, ltb-true))
 negative-above (fin false m e) h = absurd (omega (arith, ltb-true))
-
-neg-odd : (d : ℕ) (s : Bool) (q k l : ℕ) → neg (odd d (not s) q k l) ≡ odd d s q k l
-unfolding neg odd
-neg-odd d s zero k l = rw Bool·not-not
-neg-odd d s (suc q) k l = rw Bool·not-not
-
-neg-units : (f : Format) (s : Bool) (q k : ℕ) → neg (units f (not s) q k) ≡ units f s q k
-unfolding units neg
-neg-units f s q k = go (ltb (q * 2 ^ k) (2 ^ (low f + suc (emax f))))
-  where
-    go : (b : Bool) → neg (cond b (odd (suc (prec f)) (not s) q k (low f)) (inf (not s))) ≡ cond b (odd (suc (prec f)) s q k (low f)) (inf s)
-    go true = neg-odd (suc (prec f)) s q k (low f)
-    go false = ap inf (Bool·not-not s)
-
-neg-round : (f : Format) (s : Bool) (a c : ℕ) → neg (round f (not s) a c) ≡ round f s a c
-neg-round f s a c = rw (round-is f (not s) a c, round-is f s a c) (neg-units f s _ _)
 
 pub nearest-negative : (f : Format) (x : Float) → neg (nearestOf f (neg x)) ≡ nearestOf f x
 unfolding nearestOf neg

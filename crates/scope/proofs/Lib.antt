@@ -13,6 +13,7 @@ pub mod Stored
 pub mod Chosen
 pub mod Signs
 pub mod Finite
+pub mod Negated
 pub mod Ordering
 pub mod Permuted
 pub mod Numbers

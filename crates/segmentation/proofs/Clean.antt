@@ -7,7 +7,7 @@ use Rattle.scope.specs.Refusals.{wrongLayers}
 use Rattle.scope.specs.Layers.{layersTotal}
 use Rattle.scope.specs.Calls.{SeededAsked, seededTests, seededRefusal}
 use Rattle.change_in_mean.proofs.Room.{SumsClean, sums-clean}
-use Rattle.control.proofs.Sizes.{inside}
+use Rattle.scope.proofs.Candidates.{not-outside}
 use Rattle.control.proofs.Clean.{passed}
 
 pub record SeededClean (a : SeededAsked) : Type 0 where
@@ -23,7 +23,7 @@ seeded-clean a e =
     let room = p .1 .1 .1 .1 .1 in
     record {
       sums = sums-clean (a .matrix) (a .sums) (p .0) (room .0);
-      length-fits = inside 4096 (a .shortest .m) (p .1 .0) .1;
+      length-fits = not-outside 4096 (a .shortest .m) (p .1 .0) .1;
       layers-right = p .1 .1 .1 .1 .0;
       fits = ltb-false (a .records) (layersTotal (a .layers)) (room .1 .0);
     }

@@ -59,8 +59,9 @@ pub struct TreeRoom<'a> {
     pub cuts: &'a mut [usize],
 }
 
-/// The tree of the run: how many nodes, records and cuts it has. Reads m, threshold, forbidden and layers. A tree that can be deep is
-/// grown on a thread of its own. Refusals: 1, 2, 3 (threshold), 4, 5, 6, 7.
+/// The tree of the run: how many nodes, records and cuts it has. Reads m, threshold, forbidden and layers. A tree that can be deeper than
+/// 128 levels is grown on a thread of its own; one that can't takes up to 144 KiB of the caller's stack. Refusals: 1, 2, 3 (threshold), 4,
+/// 5, 6, 7; 0 where there is no such thread.
 pub fn tree(matrix: Matrix, settings: &Settings, room: TreeRoom) -> Result<Counts, Refusal> {
     let (barred, layers) = (settings.barred(), settings.layers);
     let mut counts = [0; 3];
@@ -89,27 +90,42 @@ pub fn tree(matrix: Matrix, settings: &Settings, room: TreeRoom) -> Result<Count
             counts.as_mut_ptr(),
             counts.len(),
         )
-    });
+    })?;
     let [nodes, records, cuts] = counts;
     unless(no, Counts { nodes, records, cuts })
 }
 
-/// The header's bounds on the stack that a tree takes: for each level, and besides.
+/// The stack that a tree takes, by the header's bounds: for each level, and besides, with what a thread takes itself.
 const LEVEL: usize = 1 << 10;
 const BESIDES: usize = 1 << 16;
 
 /// Trees of at most so many levels are grown on the caller's stack.
 const SHALLOW: usize = 128;
 
-/// The call, on a thread with stack enough where the tree can be deep.
-fn grown<T: Send>(rows: usize, m: usize, call: impl FnOnce() -> T + Send) -> T {
-    let levels = rows.min(4096) / m.max(1) + 1;
+/// The call, on a thread with stack enough where the tree can be deep: it has at most the greater of 1 and floor((n-1)/m) levels.
+fn grown<T: Send>(rows: usize, m: usize, call: impl FnOnce() -> T + Send) -> Result<T, Refusal> {
+    let levels = rows.min(4096).saturating_sub(1) / m.max(1);
     if levels <= SHALLOW {
-        return call();
+        return Ok(call());
     }
-    let builder = thread::Builder::new().stack_size(levels * LEVEL + BESIDES);
+    on_thread(levels * LEVEL + BESIDES, call)
+}
+
+fn on_thread<T: Send>(stack: usize, call: impl FnOnce() -> T + Send) -> Result<T, Refusal> {
+    let builder = thread::Builder::new().stack_size(stack);
     thread::scope(|scope| {
-        let thread = builder.spawn_scoped(scope, call).expect("a thread for a deep tree");
-        thread.join().expect("the library does not panic")
+        let thread = builder.spawn_scoped(scope, call).map_err(|_| Refusal::NO_THREAD)?;
+        Ok(thread.join().expect("the library does not panic"))
     })
+}
+
+#[cfg(test)]
+mod tests {
+    use super::*;
+
+    #[test]
+    fn no_thread_is_an_error() {
+        assert_eq!(on_thread(BESIDES, || 7), Ok(7));
+        assert_eq!(on_thread(1 << 46, || 7).map_err(Refusal::number), Err(0));
+    }
 }

@@ -13,7 +13,7 @@ use Rattle.scope.specs.Permutations.{no11}
 use Rattle.scope.specs.Calls.{PermutationAsked, within, permutationTests, no12-lengths}
 use Rattle.control.specs.Settings.{shortestOf}
 use Rattle.control.proofs.Clean.{answers}
-use Rattle.control.proofs.Sizes.{inside}
+use Rattle.scope.proofs.Candidates.{not-outside}
 use Rattle.classifier_gain.proofs.Lents.{first-alone}
 use borrow.Author.Needs.{needs}
 use Rattle.classifier_gain.proofs.permutation_refusal.Statement.{statement}
@@ -64,7 +64,7 @@ returns-3 c =
     (sym (c .before .before .before .before .before .is-outside .ensures) ∙ c .before .before .before .before .if1 .left, (ap not (sym (c .before .before .before .is-between .ensures)) ∙ c .before .before .if2 .left, (ap not (sym (c .before .all-finite .ensures)) ∙ c .if3 .taken, tt)))
 
 mul-if4 : tie.Need-mul-if4
-mul-if4 c = omega (arith, inside 4096 (c .before .before .before .before .before .before .before .before .before .before .before .before .args .shortest .m) (sym (c .before .before .before .before .before .before .before .is-outside .ensures) ∙ c .before .before .before .before .before .before .if1 .left))
+mul-if4 c = omega (arith, not-outside 4096 (c .before .before .before .before .before .before .before .before .before .before .before .before .args .shortest .m) (sym (c .before .before .before .before .before .before .before .is-outside .ensures) ∙ c .before .before .before .before .before .before .if1 .left))
 
 returns-4 : tie.Need-returns-4
 returns-4 c = answers (judged (c .before .before)) (true ∷ []) (le-leb _ _ (c .if4 .taken), tt) ∙ left (c .before .before)

@@ -2,7 +2,8 @@
 use mathlib.Core.Path.{sym, _∙_}
 use native.Mathlib.Omega.{arith}
 use Rattle.scope.specs.Refusals.{wrongMatrix}
-use Rattle.control.proofs.Sizes.{inside, product-small}
+use Rattle.scope.proofs.Candidates.{not-outside}
+use Rattle.control.proofs.Sizes.{product-small}
 use borrow.Author.Needs.{needs}
 use Rattle.control.proofs.wrong_matrix.Statement.{statement}
 use Rattle.control.proofs.wrong_matrix.Tie as tie
@@ -18,8 +19,8 @@ returns-2 c = rw (← c .before .before .before .is-outside .ensures, c .before 
 mul-result : tie.Need-mul-result
 mul-result c =
     let s = c .before .before .before .before .before .args in
-    let n = inside (s .most) (s .n) (sym (c .before .before .before .is-outside .ensures) ∙ c .before .before .if1 .left) in
-    let d = inside 64 (s .d) (sym (c .before .is-outside2 .ensures) ∙ c .if2 .left) in
+    let n = not-outside (s .most) (s .n) (sym (c .before .before .before .is-outside .ensures) ∙ c .before .before .if1 .left) in
+    let d = not-outside 64 (s .d) (sym (c .before .is-outside2 .ensures) ∙ c .if2 .left) in
     omega (arith, product-small (s .n) (s .d) (omega arith) (omega arith))
 
 returns-3 : tie.Need-returns-3

@@ -9,7 +9,7 @@ use Rattle.scope.specs.Refusals.{isBetween, given}
 use Rattle.scope.specs.Rounding.{minimalLength}
 use Rattle.scope.specs.Calls.{lengthAnswer}
 use Rattle.scope.proofs.Members.{first-of, second-of}
-use Rattle.control.proofs.Sizes.{inside}
+use Rattle.scope.proofs.Candidates.{not-outside}
 use Rattle.control.proofs.Sizes.{small}
 use Rattle.rounding.proofs.Relative.{minimalLength-range}
 use Rattle.entry_lengths.specs.Answers.{lengthOf}
@@ -18,7 +18,7 @@ use Rattle.entry_lengths.proofs.minimal_segment_length.Statement.{state
 use Rattle.entry_lengths.proofs.minimal_segment_length.Tie as tie
 
 rows : (c : tie.Else2) → c .before .before .before .before .args .n ≤ 4096
-rows c = inside 4096 (c .before .before .before .before .args .n) (sym (c .before .before .before .is-outside .ensures) ∙ c .before .before .if1 .left) .1
+rows c = not-outside 4096 (c .before .before .before .before .args .n) (sym (c .before .before .before .is-outside .ensures) ∙ c .before .before .if1 .left) .1
 
 between : (c : tie.Else2) → (lt +0 (c .before .before .before .before .args .relative) ≡ true) × (lt (c .before .before .before .before .args .relative) half ≡ true)
 unfolding ofBits isBetween

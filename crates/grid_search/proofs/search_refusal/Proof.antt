@@ -10,7 +10,8 @@ use Rattle.scope.specs.Refusals.{Test, firstOf}
 use Rattle.scope.specs.Calls.{searchTests, searchRefusal}
 use Rattle.control.specs.Settings.{shortestOf}
 use Rattle.control.proofs.Clean.{answers, stops, passes, passed}
-use Rattle.control.proofs.Sizes.{Matrix, matrix, inside}
+use Rattle.scope.proofs.Candidates.{not-outside}
+use Rattle.control.proofs.Sizes.{Matrix, matrix}
 use borrow.Author.Needs.{needs}
 use Rattle.grid_search.proofs.search_refusal.Statement.{statement}
 use Rattle.grid_search.proofs.search_refusal.Tie as tie
@@ -25,7 +26,7 @@ sizes : (c : tie.Else1) → Matrix 4096 (now (c .before .before .before .before 
 sizes c =
     let a = c .before .before .before .before .args in
     let p = passed (take 2 (tests (c .before .before .before .before))) tt (sym (c .before .sizes-refusal .ensures) ∙ c .if1 .left) in
-    (matrix 4096 (now (a .cells)) (a .n) (a .d) (p .0), inside 4096 (a .shortest .m) (p .1 .0) .1)
+    (matrix 4096 (now (a .cells)) (a .n) (a .d) (p .0), not-outside 4096 (a .shortest .m) (p .1 .0) .1)
 
 left1 : (c : tie.Else1) → firstOf (tests (c .before .before .before .before)) ≡ firstOf (drop 2 (tests (c .before .before .before .before)))
 left1 c = let ts = tests (c .before .before .before .before) in passes (take 2 ts) (drop 2 ts) tt (sym (c .before .sizes-refusal .ensures) ∙ c .if1 .left)

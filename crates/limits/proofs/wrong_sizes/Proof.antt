@@ -3,7 +3,8 @@ use mathlib.Core.Path.{sym, _∙_}
 use native.Mathlib.Omega.{arith}
 use borrow.Author.Needs.{needs}
 use borrow.Author.Tests.{lt-ltb, le-ltb}
-use Rattle.control.proofs.Sizes.{inside, product-small}
+use Rattle.scope.proofs.Candidates.{not-outside}
+use Rattle.control.proofs.Sizes.{product-small}
 use Rattle.limits.specs.Limits.{wrongGiven}
 use Rattle.limits.proofs.wrong_sizes.Statement.{statement}
 use Rattle.limits.proofs.wrong_sizes.Tie as tie
@@ -11,8 +12,8 @@ use Rattle.limits.proofs.wrong_sizes.Tie as tie
 mul-cells : tie.Need-mul-cells
 mul-cells c =
     let g = c .before .before .before .before .before .args .deck in
-    let n = inside 256 (g .n) (sym (c .before .before .before .before .is-outside .ensures) ∙ c .before .before .before .if1 .left) in
-    let d = inside 64 (g .d) (sym (c .before .before .is-outside2 .ensures) ∙ c .before .if2 .left) in
+    let n = not-outside 256 (g .n) (sym (c .before .before .before .before .is-outside .ensures) ∙ c .before .before .before .if1 .left) in
+    let d = not-outside 64 (g .d) (sym (c .before .before .is-outside2 .ensures) ∙ c .before .if2 .left) in
     omega (arith, product-small (g .n) (g .d) (omega arith) (omega arith))
 
 pub wrong-sizes-spec : {M : Type 1} → statement M

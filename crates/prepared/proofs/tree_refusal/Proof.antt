@@ -13,7 +13,8 @@ use Rattle.scope.specs.Tree.{mostNodes}
 use Rattle.scope.specs.Calls.{treeTests, treeRefusal}
 use Rattle.control.specs.Settings.{shortestOf, settingsOf}
 use Rattle.control.proofs.Clean.{answers, stops, passes, passed}
-use Rattle.control.proofs.Sizes.{Matrix, matrix, inside}
+use Rattle.scope.proofs.Candidates.{not-outside}
+use Rattle.control.proofs.Sizes.{Matrix, matrix}
 use Rattle.layers.proofs.Layered.{total-most}
 use borrow.Author.Needs.{needs}
 use Rattle.prepared.proofs.tree_refusal.Statement.{statement}
@@ -41,7 +42,7 @@ sizes : (c : tie.Else1) → Matrix 4096 (now (c .before .before .before .before 
 sizes c =
     let a = c .before .before .before .before .before .before .args in
     let p = passed (take 2 (from (c .before .before .before .before .before .before) 0)) tt (sym (c .before .sizes-refusal .ensures) ∙ c .if1 .left) in
-    (matrix 4096 (now (a .cells)) (a .n) (a .d) (p .0), inside 4096 (a .settings .shortest .m) (p .1 .0) .0)
+    (matrix 4096 (now (a .cells)) (a .n) (a .d) (p .0), not-outside 4096 (a .settings .shortest .m) (p .1 .0) .0)
 
 left2 : (c : tie.Else1) → firstOf (from (c .before .before .before .before .before .before) 2) ≡ firstOf (from (c .before .before .before .before .before .before) 0)
 left2 c = sym (passes (take 2 (from (c .before .before .before .before .before .before) 0)) (from (c .before .before .before .before .before .before) 2) tt (sym (c .before .sizes-refusal .ensures) ∙ c .if1 .left))

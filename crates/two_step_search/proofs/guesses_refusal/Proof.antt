@@ -8,7 +8,7 @@ use Rattle.scope.specs.Refusals.{Test, no1-rows, no2, no5}
 use Rattle.scope.specs.Calls.{GuessesAsked, guessesTests}
 use Rattle.control.specs.Settings.{shortestOf}
 use Rattle.control.proofs.Clean.{passed, stops, passes}
-use Rattle.control.proofs.Sizes.{inside}
+use Rattle.scope.proofs.Candidates.{not-outside}
 use borrow.Author.Needs.{needs}
 use Rattle.two_step_search.proofs.guesses_refusal.Statement.{statement}
 use Rattle.two_step_search.proofs.guesses_refusal.Tie as tie
@@ -29,7 +29,7 @@ segment-refusal-requires : tie.Need-segment-refusal-requires
 segment-refusal-requires c κs =
     let s = c .before .before .before in
     let p = passed (first s) tt (sym (c .before .rows-refusal .ensures) ∙ c .if1 .left) in
-    (inside 4096 (s .args .n) (p .0) .1, inside 4096 (s .args .shortest .m) (p .1 .0) .1)
+    (not-outside 4096 (s .args .n) (p .0) .1, not-outside 4096 (s .args .shortest .m) (p .1 .0) .1)
 
 returns-2 : tie.Need-returns-2
 returns-2 c =

@@ -12,7 +12,8 @@ use Rattle.scope.specs.Refusals.{Test, firstOf}
 use Rattle.scope.specs.Calls.{PickAsked, guessesTests, pickTests}
 use Rattle.control.specs.Settings.{shortestOf}
 use Rattle.control.proofs.Clean.{passed, answers, stops, passes}
-use Rattle.control.proofs.Sizes.{inside, segment}
+use Rattle.scope.proofs.Candidates.{not-outside}
+use Rattle.control.proofs.Sizes.{segment}
 use borrow.Author.Needs.{needs}
 use Rattle.two_step_search.proofs.pick_refusal.Statement.{statement}
 use Rattle.two_step_search.proofs.pick_refusal.Tie as tie
@@ -36,7 +37,7 @@ sizes c =
     let s = c .before .before .before .before in
     let p = passed (shared s) tt (sym (c .before .guesses-refusal .ensures) ∙ c .if1 .left) in
     let w = segment (s .args .n) (s .args .start .0) (s .args .stop .0) (p .1 .1 .1 .0) in
-    (w .0, omega (arith, inside 4096 (s .args .n) (p .0)), inside 4096 (s .args .shortest .m) (p .1 .0) .1)
+    (w .0, omega (arith, not-outside 4096 (s .args .n) (p .0)), not-outside 4096 (s .args .shortest .m) (p .1 .0) .1)
 
 returns : tie.Need-returns
 returns c =

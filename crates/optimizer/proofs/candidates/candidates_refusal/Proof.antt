@@ -11,7 +11,7 @@ use Rattle.scope.specs.Refusals.{Test, firstOf, no1-rows, no2, no5}
 use Rattle.scope.specs.Calls.{CandidatesAsked, candidatesTests, candidatesRefusal}
 use Rattle.control.specs.Settings.{shortestOf}
 use Rattle.control.proofs.Clean.{passed, answers, stops, passes}
-use Rattle.control.proofs.Sizes.{inside}
+use Rattle.scope.proofs.Candidates.{not-outside}
 use borrow.Author.Needs.{needs}
 use Rattle.optimizer.proofs.candidates.candidates_refusal.Statement.{statement}
 use Rattle.optimizer.proofs.candidates.candidates_refusal.Tie as tie
@@ -26,7 +26,7 @@ first a = no1-rows (a .n) ∷ no2 (a .shortest) ∷ no5 (a .forbidden) ∷ []
 sizes : (c : tie.Else1) → (c .before .before .before .args .n ≤ 4096) × (c .before .before .before .args .shortest .m ≤ 4096)
 sizes c =
     let p = passed (first (asked (c .before .before .before))) tt (sym (c .before .rows-refusal .ensures) ∙ c .if1 .left) in
-    (inside 4096 (c .before .before .before .args .n) (p .0) .1, inside 4096 (c .before .before .before .args .shortest .m) (p .1 .0) .1)
+    (not-outside 4096 (c .before .before .before .args .n) (p .0) .1, not-outside 4096 (c .before .before .before .args .shortest .m) (p .1 .0) .1)
 
 -- past the first tests
 left : (c : tie.Else1) → firstOf (candidatesTests (asked (c .before .before .before))) ≡ firstOf (drop 3 (candidatesTests (asked (c .before .before .before))))
