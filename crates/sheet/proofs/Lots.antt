@@ -12,7 +12,8 @@ use Rattle.deck.specs.Walk.{start, Run, run, fed}
 use Rattle.deck.specs.Meaning.{Right, after}
 use Rattle.deck.proofs.Fed.{fed-lots}
 use Rattle.answers.specs.Answered.{Said}
-use Rattle.sheet.specs.Taken.{Fed, Begun, Rest, Rested, Held, ended, longer, Whole, Taken, Told, of}
+use Rattle.sheet.specs.Taken.{Fed, Begun, Rest, Rested, Whole, Taken}
+use Rattle.sheet.specs.Told.{Held, ended, longer, Told, of}
 use Rattle.sheet.specs.declared.reading.Input.{Input}
 use Rattle.sheet.specs.declared.reading.Input.the-variants as input
 

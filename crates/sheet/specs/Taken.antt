@@ -1,16 +1,16 @@
--- What can be said of the bytes that were read. The first ones stand in a lent buffer, which is named. No contract of the C library's says which bytes a read
--- delivers, so of those that are read behind them, in lots, each statement is of some bytes.
+-- How the input is read: its first bytes into a lent buffer, the rest in lots. No contract of the C library's says which bytes a read delivers, so of the lots each
+-- statement is of some bytes.
 use mathlib.Core.Path.{_≡_}
-use mathlib.Core.List.{List, _++_}
+use mathlib.Core.List.{List}
 use Prim.Native.Nat.{ℕ, _+_, _*_, _^_, _≤_}
 use lib.Ieee.{Float}
-use lib.ListN.{length, take}
+use lib.ListN.{length}
 use Rattle.scope.specs.Program.{readInput}
-use Rattle.demand.specs.Printed.{Answers}
 use Rattle.deck.specs.declared.State.{State}
 use Rattle.deck.specs.declared.Read.{Read}
 use Rattle.deck.specs.Walk.{run, fed}
 use Rattle.deck.specs.Meaning.{Says, Right}
+use Rattle.sheet.specs.Told.{Held}
 use Rattle.sheet.specs.declared.reading.First.{First}
 use Rattle.sheet.specs.declared.reading.First.the-variants as first
 use Rattle.sheet.specs.declared.reading.Lot.{Lot}
@@ -54,11 +54,6 @@ Rested s₀ cells₀ forbidden₀ cells forbidden (input.Read read) = Rest s₀ 
 Rested s₀ cells₀ forbidden₀ cells forbidden input.Failed = Unit {0}
 
 -- ---- the whole input
--- its bytes: the first n that stand in the buffer; or all that stand there, and some behind them
-pub data Held (kept : List ℕ) : List ℕ → Type 0 where
-  ended : (n : ℕ) → n ≤ length kept → Held kept (take n kept)
-  longer : (more : List ℕ) → Held kept (kept ++ more)
-
 -- a reading that says what the definitions say of it, read into slices that have room
 pub record Whole (kept : List ℕ) (cells₀ : List Float) (forbidden₀ : List ℕ) (cells : List Float) (forbidden : List ℕ) (read : Read) : Type 0 where
   pub bytes : List ℕ
@@ -68,8 +63,3 @@ pub record Whole (kept : List ℕ) (cells₀ : List Float) (forbidden₀ : List 
 abbrev pub Taken : List ℕ → List Float → List ℕ → List Float → List ℕ → Input → Type 0
 Taken kept cells₀ forbidden₀ cells forbidden (input.Read read) = Whole kept cells₀ forbidden₀ cells forbidden read
 Taken kept cells₀ forbidden₀ cells forbidden input.Failed = Unit {0}
-
--- what is to be written: nothing, or the answer to the input
-pub data Told (kept text : List ℕ) : Type 0 where
-  nothing : length text ≡ 0 → Told kept text
-  of : (bytes : List ℕ) → Held kept bytes → Answers bytes text → Told kept text

@@ -17,7 +17,7 @@ use reading::Input;
 use reading::KEPT;
 ghost use Prim.Native.Nat.{_≤_};
 ghost use lib.ListN.{length, take};
-ghost use Rattle.sheet.specs.Taken.{Told};
+ghost use Rattle.sheet.specs.Told.{Told};
 
 // The text for the input, and how many bytes it has: none where the input could not be read.
 fn run(kept: &mut [u8], out: &mut [u8; TEXT]) -> usize

@@ -10,7 +10,7 @@ ghost use Prim.Native.Nat.{_≤_};
 ghost use lib.ListN.{length};
 ghost use Rattle.sheet.specs.Taken.{Filled, Fetched, Rested, Taken};
 
-// How many bytes are kept. A deck with a sheet has less than 30,000: 64 pairs, and 2,048 cells of six bytes, each on a line of its own at most.
+// How many bytes are kept. A deck with a sheet has less than 25,000: 64 pairs, and 2,048 cells of six bytes, each on a line of its own at most.
 pub const KEPT: usize = 65536;
 
 // A proved loop has to end, and nothing says that the input does: the turns are counted down from a number that no run uses up, and that keeps every line's

@@ -1,7 +1,7 @@
 -- `run` meets its contract: no text, or that of the bytes that were read.
 use mathlib.Core.Path.{refl}
 use native.Mathlib.Omega.{arith}
-use Rattle.sheet.specs.Taken.{nothing}
+use Rattle.sheet.specs.Told.{nothing}
 use Rattle.sheet.proofs.Lots.{told-of}
 use borrow.Author.Needs.{needs}
 use Rattle.sheet.proofs.run.Statement.{statement}
