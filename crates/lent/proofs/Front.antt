@@ -1,8 +1,7 @@
--- The first k elements of a `&mut [T]`, lent for a call, as steps of a walk (`Walk.antt`): `&mut s[..k]`, and `&s[..k]`. They come back at whatever the call left, before the others as they were. It says nothing of any crate.
+-- The first k elements of a `&mut [T]`, lent for a call, as steps of a walk (`Walk.antt`): `&mut s[..k]`. They come back at whatever the call left, before the others as they were. It says nothing of any crate.
 --     frontOf          that `&mut [T]`, for a lifetime ν of the call's own, under a new name δ.        keptOf     what the holder keeps meanwhile.        backAt     the whole, once they are back at l
 --     lends-front p    past the first p entries of what is held stand the `&mut [T]` and its token: there stand the first k elements and ν's token, and what is kept stands first
 --     front-back p     there they stand, at whatever list: the whole and its token stand there again
---     shares-front p, front-unshared p     the same as a `&[T]`, by `First.antt`: they come back as they were
 -- A local array is lent whole before (`Arrays.antt`). Assumes `Given`.
 use mathlib.Core.Path.{_≡_, refl, sym, _∙_, ap, subst}
 use Prim.Native.Nat.{ℕ, suc, _≤_}
@@ -24,8 +23,8 @@ use borrow.Rule.Slice.Part.{keptP, sl-relendᵖ, sl-relent-backᵖˡ}
 use borrow.Table.Elements.{same-len}
 use denote.RattleType.{RattleType}
 use denote.Slice.{sliceVal}
-use Rattle.lent.proofs.Held.{Unique, unique, Good, at-list, last-is, slice, common, token, says-list}
-use Rattle.lent.proofs.First.{firstOf, first-good, keptOf as keptShared, lends-first, comes-first}
+use Rattle.lent.proofs.Held.{Unique, unique, Good, at-list, last-is, slice, token, says-list}
+use Rattle.lent.proofs.First.{first-good}
 use Rattle.lent.proofs.Locals.{Slot, Places, env, cells}
 use Rattle.lent.proofs.Walk.{then, Walk}
 use Rattle.lent.proofs.Calls.{upto, past}
@@ -101,26 +100,4 @@ module _ {M : Type 1} {𝓤 : URA M} {H : Heap 𝓤} {A : Atoms 𝓤} {K : Type 
         run = subst (λ (Γ : List (Item 𝓤)). Seq K W (Γ ++ Cs) (runs C Λ (env ls pl) c (then 𝓤 H C Λ (env ls pl) Kf ks))) (sym has) (out-kept t X Z Cs $
             -- [what is kept; the first elements; their token; the rest]
             move t (2 ∷ 0 ∷ 1 ∷ []) $ use3 W (later (Whole 𝓤 H A W R a k ν l)) (back 𝓤 H A W R a k ν δ l long) $ await t tt $ learn t (λ e. split t $ into t X Z Cs $ w e .run));
-      }
-
-  pub shares-front : K → (R : RattleType) (a : Unique (R .Denot)) (p k : ℕ) {c : Body} → Δ ≡ Between (upto p Δ) (past (suc (suc p)) [] Δ) (‵ (slice 𝓤 H A R a)) (token 𝓤 H A (a .κ) (a .q))
-      → ((ν : ℕ) (δ : GName) → Walk K W C Λ ls pl Kf (‵ (keptShared R a k ν) ∷ Between (upto p Δ) (past (suc (suc p)) [] Δ) (‵ (common 𝓤 H A R (firstOf a k ν δ))) (token 𝓤 H A (ν ∷ []) fullShare)) vs ks c) → Walk K W C Λ ls pl Kf Δ vs ks c
-  shares-front t R a p k {c} has w =
-      let X = upto p Δ in
-      let Z = past (suc (suc p)) [] Δ in
-      let Cs = cells 𝓤 ls pl vs in
-      record {
-        run = subst (λ (Γ : List (Item 𝓤)). Seq K W (Γ ++ Cs) (runs C Λ (env ls pl) c (then 𝓤 H C Λ (env ls pl) Kf ks))) (sym has) (out t X Z Cs $ lends-first t tt R a k (λ ν δ. move t (2 ∷ 0 ∷ 1 ∷ []) $ in-kept t X Z Cs $ w ν δ .run));
-      }
-
-  pub front-unshared : K → (R : RattleType) (a : Unique (R .Denot)) (p k : ℕ) (δ : GName) {ν : ℕ} {c : Body} → length (a .list) ≡ a .m
-      → Δ ≡ ‵ (keptShared R a k ν) ∷ Between (upto p (rest Δ)) (past (suc (suc p)) [] (rest Δ)) (‵ (common 𝓤 H A R (firstOf a k ν δ))) (token 𝓤 H A (ν ∷ []) fullShare)
-      → Walk K W C Λ ls pl Kf (Between (upto p (rest Δ)) (past (suc (suc p)) [] (rest Δ)) (‵ (slice 𝓤 H A R a)) (token 𝓤 H A (a .κ) (a .q))) vs ks c → Walk K W C Λ ls pl Kf Δ vs ks c
-  front-unshared t R a p k δ {ν} {c} long has w =
-      let X = upto p (rest Δ) in
-      let Z = past (suc (suc p)) [] (rest Δ) in
-      let Cs = cells 𝓤 ls pl vs in
-      record {
-        run = subst (λ (Γ : List (Item 𝓤)). Seq K W (Γ ++ Cs) (runs C Λ (env ls pl) c (then 𝓤 H C Λ (env ls pl) Kf ks))) (sym has) (out-kept t X Z Cs $
-            move t (2 ∷ 0 ∷ []) $ comes-first t tt R a k ν long $ move t (2 ∷ []) $ drop t $ into t X Z Cs $ w .run);
       }

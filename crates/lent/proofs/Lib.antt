@@ -6,7 +6,6 @@ pub mod Held
 pub mod First
 pub mod Locals
 pub mod Walk
-pub mod Branch
 pub mod Calls
 pub mod Between
 pub mod Meets
