@@ -7,11 +7,13 @@ use Prim.Native.Nat.{ℕ, _+_, _≤_, _<_}
 use native.Mathlib.Omega.{arith}
 use lib.Ieee.{Float, nan, inf, fin, lt}
 use Rattle.scope.specs.Floats.{lowest}
+use Rattle.scope.specs.Asked.{endOf}
 use Rattle.scope.specs.Greatest.{numeric}
 use Rattle.scope.specs.Grid.{Record}
 use Rattle.scope.specs.Tree.{Run, seedRecords, choice, uncut, cut, judged, verdict}
 use Rattle.scope.proofs.Order.{both, lt-co}
 use Rattle.scope.proofs.Never.{never}
+use Rattle.scope.proofs.Candidates.{one-at-most}
 use Rattle.demand.specs.Reached.{ruling, isCut, CutBy}
 use Rattle.demand.specs.Offered.{Offered, Greatest}
 use Rattle.demand.proofs.Records.{Found, direct-found}
@@ -123,6 +125,11 @@ module _ (q : Run) (start stop : ℕ) where
   pub cut-by : (r : Record) → ruling q start stop ≡ cut r → CutBy q start stop r
   cut-by r h = let (e, t) = cut-choice r h in source-cuts r (choice-source q start stop r e) t
 
-  -- a cut lies m or more inside on the left, and more than m on the right
-  pub cut-far : (r : Record) → ruling q start stop ≡ cut r → (start + q .shortest .m ≤ r .split) × (r .split + q .shortest .m < stop)
-  cut-far r h = let c = cut-by r h in (omega arith, omega arith)
+  -- a cut lies m or more inside, on the right more than m unless the end is closed
+  pub record Far (x : ℕ) : Type 0 where
+    pub left : start + q .shortest .m ≤ x
+    pub below : x + q .shortest .m < endOf (q .shortest) stop
+    pub right : x + q .shortest .m ≤ stop
+
+  pub cut-far : (r : Record) → ruling q start stop ≡ cut r → Far (r .split)
+  cut-far r h = let c = cut-by r h in record { left = omega arith; below = omega arith; right = omega (arith, one-at-most (q .shortest)) }

@@ -1,4 +1,4 @@
--- Where all gains are one and exceed the threshold, and nothing is forbidden, every segment longer than 2 m is cut at its first allowed row,
+-- Where all gains are one and exceed the threshold, and nothing is forbidden, every segment with an allowed row is cut at the first,
 -- and the tree has as many nodes and levels as any. Assumes nothing.
 use mathlib.Core.Path.{_≡_, refl, sym, _∙_, ap}
 use mathlib.Core.Logic.{⊎-elim}
@@ -13,13 +13,13 @@ use lib.Dec.{leb}
 use lib.Ieee.{Float, lt}
 use Rattle.scope.specs.Lists.{_∈_}
 use Rattle.scope.specs.Floats.{lowest}
-use Rattle.scope.specs.Asked.{Shortest}
+use Rattle.scope.specs.Asked.{Shortest, endOf}
 use Rattle.scope.specs.Allowed.{Allowed, Ascending}
 use Rattle.scope.specs.Greatest.{FirstGreatest, kept, taken}
 use Rattle.scope.specs.Grid.{Record, blank, trial, trials}
 use Rattle.scope.specs.Tree.{Run, direct, seedRecords, inside, cut, Tree, nodeCount, mostNodes}
 use Rattle.scope.proofs.Order.{both, lt-irrefl, lt-numeric}
-use Rattle.scope.proofs.Candidates.{no-pair, candidates-ascend}
+use Rattle.scope.proofs.Candidates.{one-at-most, no-pair, candidates-ascend}
 use Rattle.demand.specs.Reached.{ruling, isCut}
 use Rattle.demand.specs.Offered.{own}
 use Rattle.demand.specs.Grows.{Grows, asLeaf, asNode}
@@ -30,14 +30,14 @@ use Rattle.demand.proofs.Cut.{offered-cut, cut-choice, cut-by, cut-far}
 
 -- ---- B
 module _ (s : Shortest) (least : 1 ≤ s .m) where
-  short : (L : ℕ) → L ≤ 2 * s .m → 0 < L → mostNodes L s ≡ 1
-  short L h p = let y : (L - 1) / s .m < 2 = div-lt-iff-lt-mul least .1 (omega arith) in omega arith
+  short : (L : ℕ) → endOf s L ≤ 2 * s .m → mostNodes L s ≡ 1
+  short L h = let y : (endOf s L - 1) / s .m < 2 = div-lt-iff-lt-mul least .1 (omega arith) in omega arith
 
-  longer : (L : ℕ) → 2 * s .m < L → mostNodes L s ≡ 2 + mostNodes (L - s .m) s
+  longer : (L : ℕ) → 2 * s .m < endOf s L → mostNodes L s ≡ 2 + mostNodes (L - s .m) s
   longer L h =
-      let y : 1 ≤ (L - s .m - 1) / s .m = le-div-iff-mul-le least .1 (omega arith) in
-      let z : (L - 1) / s .m ≡ (L - 1 - s .m) / s .m + 1 = div-eq-sub-div least (omega arith) in
-      let w : L - 1 - s .m ≡ L - s .m - 1 = omega arith in
+      let w : endOf s L - 1 - s .m ≡ endOf s (L - s .m) - 1 = omega (arith, one-at-most s) in
+      let y : 1 ≤ (endOf s (L - s .m) - 1) / s .m = le-div-iff-mul-le least .1 (omega arith) in
+      let z : (endOf s L - 1) / s .m ≡ (endOf s L - 1 - s .m) / s .m + 1 = div-eq-sub-div least (omega arith) in
       rw (z, w) (omega arith)
 
 -- ---- the first of ascending rows
@@ -48,12 +48,12 @@ not-below lo (x ∷ xs) y a i = ⊎-elim (λ e. omega (arith, a .0)) (λ j. omeg
 module _ (q : Run) (least : 1 ≤ q .shortest .m) (free : q .forbidden ≡ []) (g : Float)
     (all : (start stop x : ℕ) → start < x → x < stop → stop ≤ q .n → q .gain start stop x ≡ g)
     (over : lt (q .threshold) g ≡ true) where
-  module _ (start stop : ℕ) (long : start + 2 * q .shortest .m < stop) (fits : stop ≤ q .n) where
+  module _ (start stop : ℕ) (long : start + 2 * q .shortest .m < endOf (q .shortest) stop) (fits : stop ≤ q .n) where
     first-allowed : Allowed (q .shortest) (q .forbidden) start stop (start + q .shortest .m)
     first-allowed = record { low = omega arith; high = omega arith; free = λ a b p. absurd (no-pair (q .forbidden) a b free p) }
 
     row-level : (x : ℕ) → Allowed (q .shortest) (q .forbidden) start stop x → q .gain start stop x ≡ g
-    row-level x w = all start stop x (omega arith) (omega arith) fits
+    row-level x w = all start stop x (omega arith) (omega (arith, one-at-most (q .shortest))) fits
 
     is-cut : isCut (ruling q start stop) ≡ true
     is-cut = offered-cut q start stop (q .gain start stop (start + q .shortest .m)) (own first-allowed) (rw (row-level (start + q .shortest .m) first-allowed) over)
@@ -89,7 +89,7 @@ module _ (q : Run) (least : 1 ≤ q .shortest .m) (free : q .forbidden ≡ []) (
     cut-first : (r : Record) → ruling q start stop ≡ cut r → r .split ≡ start + q .shortest .m
     cut-first r h =
         let c = cut-by q start stop r h in
-        let r-is : r .gain ≡ g = c .own ∙ all (r .start) (r .stop) (r .split) (omega (arith, c .row .low)) (omega (arith, c .row .high)) (omega (arith, c .right)) in
+        let r-is : r .gain ≡ g = c .own ∙ all (r .start) (r .stop) (r .split) (omega (arith, c .row .low)) (omega (arith, c .row .high, one-at-most (q .shortest))) (omega (arith, c .right)) in
         let (d, p, f) = choice-of q (seedRecords q) start stop r (cut-choice q start stop r h .0) in
         go d p r-is f
       where
@@ -109,11 +109,11 @@ module _ (q : Run) (least : 1 ≤ q .shortest .m) (free : q .forbidden ≡ []) (
 
   level-nodes : (start stop : ℕ) (t : Tree) → Grows q start stop t → start < stop → stop ≤ q .n → nodeCount t ≡ mostNodes (stop - start) (q .shortest)
   unfolding nodeCount
-  level-nodes start stop t (asLeaf {o = o} h) filled fits = go (leb (stop - start) (2 * q .shortest .m)) refl
+  level-nodes start stop t (asLeaf {o = o} h) filled fits = go (leb (endOf (q .shortest) (stop - start)) (2 * q .shortest .m)) refl
     where
-      go : (b : Bool) → leb (stop - start) (2 * q .shortest .m) ≡ b → 1 ≡ mostNodes (stop - start) (q .shortest)
-      go true e = sym (short (q .shortest) least (stop - start) (leb-true (stop - start) (2 * q .shortest .m) e) (omega arith))
-      go false e = let long = leb-false (stop - start) (2 * q .shortest .m) e in both (is-cut start stop (omega arith) fits) (ap isCut h)
+      go : (b : Bool) → leb (endOf (q .shortest) (stop - start)) (2 * q .shortest .m) ≡ b → 1 ≡ mostNodes (stop - start) (q .shortest)
+      go true e = sym (short (q .shortest) least (stop - start) (leb-true (endOf (q .shortest) (stop - start)) (2 * q .shortest .m) e))
+      go false e = let long = leb-false (endOf (q .shortest) (stop - start)) (2 * q .shortest .m) e in both (is-cut start stop (omega arith) fits) (ap isCut h)
   level-nodes start stop t (asNode {r = r} {s = l} {t = u} h x y) filled fits =
       let far = cut-far q start stop r h in
       let at = cut-first start stop (omega arith) fits r h in

@@ -13,3 +13,4 @@ pub mod Level
 pub mod Wholes
 pub mod Zero
 pub mod Demand
+pub mod ClosedEnd

@@ -8,11 +8,14 @@ use native.Mathlib.Numerals.{add-one}
 use native.Mathlib.Omega.{arith}
 use lib.Ieee.{Float}
 use lib.ListN.{length, length-append}
+use Rattle.scope.specs.Asked.{endOf}
 use Rattle.scope.specs.Grid.{Record}
 use Rattle.scope.specs.Layers.{Segment, layerCount, layerSegments, seeded, layersTotal, one, stored}
 use Rattle.scope.specs.Tree.{Run, direct, seedRecords, Tree, leaf, node, nodes, nodeCount, cuts, sheet, mostNodes}
+use Rattle.scope.proofs.Candidates.{one-at-most}
 use Rattle.scope.proofs.Stored.{one-few}
 use Rattle.demand.specs.Grows.{Grows, directs}
+use Rattle.demand.specs.Spaced.{lastGap}
 use Rattle.demand.specs.Levels.{levels, mostLevels}
 use Rattle.demand.proofs.Sheet.{sheet-node, spaced-least, sheet-spaced}
 
@@ -40,9 +43,9 @@ module _ (q : Run) (least : 1 ≤ q .shortest .m) (T : Tree) (whole : Grows q 0 
       go : (k : ℕ) → length (sheet T) ≡ k → nodeCount T ≤ mostNodes (q .n) (q .shortest)
       go zero h = omega (arith, count-sheet T)
       go (suc k) h =
-          let sp = spaced-least (q .shortest .m) (suc (q .shortest .m)) 0 (sheet T) (q .n) (sheet-spaced q T whole (omega arith)) in
+          let sp = spaced-least (q .shortest .m) (lastGap (q .shortest)) 0 (sheet T) (q .n) (sheet-spaced q T whole (omega arith)) in
           let mul : length (sheet T) * q .shortest .m ≡ suc k * q .shortest .m = ap (λ (x : ℕ). x * q .shortest .m) h in
-          let up : suc (suc k) * q .shortest .m ≤ q .n - 1 = omega arith in
+          let up : suc (suc k) * q .shortest .m ≤ endOf (q .shortest) (q .n) - 1 = omega (arith, one-at-most (q .shortest)) in
           omega (arith, count-sheet T, le-div-iff-mul-le least .1 up)
 
   pub levels-few : levels T ≤ mostLevels (q .n) (q .shortest)

@@ -6,12 +6,14 @@ use Prim.Native.Nat.{ℕ, suc, _+_, _*_, _≤_, _<_}
 use native.Mathlib.Omega.{arith}
 use lib.ListN.{length}
 use Rattle.scope.specs.Lists.{_∈_}
+use Rattle.scope.specs.Asked.{oneMore, endOf}
 use Rattle.scope.specs.Allowed.{Ascending}
 use Rattle.scope.specs.Grid.{Record}
 use Rattle.scope.specs.Tree.{Run, Tree, node, cuts, sheet}
+use Rattle.scope.proofs.Candidates.{one-at-most}
 use Rattle.demand.specs.Reached.{Reached, run, left, right, Chosen, CutAt}
 use Rattle.demand.specs.Grows.{Grows, asLeaf, asNode}
-use Rattle.demand.specs.Spaced.{Spaced}
+use Rattle.demand.specs.Spaced.{Spaced, lastGap}
 use Rattle.demand.proofs.Cut.{cut-far}
 use Rattle.demand.proofs.Grows.{parts-of, lifted}
 
@@ -64,22 +66,23 @@ ascending-spaced m last start [] stop lo least h k = tt
 ascending-spaced m last start (x ∷ xs) stop lo least h k = (omega (arith, k .0), ascending-spaced m last x xs stop (x + 1) least (omega arith) (k .1))
 
 module _ (q : Run) where
-  spaced : (start stop : ℕ) (t : Tree) → Grows q start stop t → (last : ℕ) → last ≤ suc (q .shortest .m) → start + last ≤ stop → Spaced (q .shortest .m) last start (sheet t) stop
+  spaced : (start stop : ℕ) (t : Tree) → Grows q start stop t → (last : ℕ) → oneMore (q .shortest) + last ≤ suc (q .shortest .m) → start + last ≤ stop
+      → Spaced (q .shortest .m) last start (sheet t) stop
   unfolding sheet cuts
   spaced start stop t (asLeaf h) last small fits = fits
   spaced start stop t (asNode {r = r} {s = s} {t = u} h x y) last small fits =
       let far = cut-far q start stop r h in
       rw (sheet-node start stop r s u)
-      (spaced-join (q .shortest .m) last start (sheet s) (r .split) (sheet u) stop (spaced start (r .split) s x (q .shortest .m) (omega arith) (far .0)) (spaced (r .split) stop u y last small (omega arith)))
+      (spaced-join (q .shortest .m) last start (sheet s) (r .split) (sheet u) stop (spaced start (r .split) s x (q .shortest .m) (omega (arith, one-at-most (q .shortest))) (far .left)) (spaced (r .split) stop u y last small (omega arith)))
 
-  long : (start stop : ℕ) (t : Tree) → Grows q start stop t → 0 < length (sheet t) → start + suc (q .shortest .m) ≤ stop
+  long : (start stop : ℕ) (t : Tree) → Grows q start stop t → 0 < length (sheet t) → start + suc (q .shortest .m) ≤ endOf (q .shortest) stop
   unfolding sheet cuts
   long start stop t (asLeaf h) any = absurd (let empty : 0 < 0 = any in omega arith)
   long start stop t (asNode {r = r} h x y) any = omega (arith, cut-far q start stop r h)
 
   module _ (T : Tree) (whole : Grows q 0 (q .n) T) where
-    pub sheet-spaced : 0 < length (sheet T) → Spaced (q .shortest .m) (suc (q .shortest .m)) 0 (sheet T) (q .n)
-    sheet-spaced any = spaced 0 (q .n) T whole (suc (q .shortest .m)) (omega arith) (long 0 (q .n) T whole any)
+    pub sheet-spaced : 0 < length (sheet T) → Spaced (q .shortest .m) (lastGap (q .shortest)) 0 (sheet T) (q .n)
+    sheet-spaced any = let few = one-at-most (q .shortest) in spaced 0 (q .n) T whole (lastGap (q .shortest)) (omega arith) (omega (arith, long 0 (q .n) T whole any))
 
     pub sheet-ascends : 1 ≤ q .shortest .m → Ascending 0 (sheet T)
-    sheet-ascends least = ascending-spaced (q .shortest .m) 0 0 (sheet T) (q .n) 0 least (omega arith) (spaced 0 (q .n) T whole 0 (omega arith) (omega arith))
+    sheet-ascends least = ascending-spaced (q .shortest .m) 0 0 (sheet T) (q .n) 0 least (omega arith) (spaced 0 (q .n) T whole 0 (omega (arith, one-at-most (q .shortest))) (omega arith))

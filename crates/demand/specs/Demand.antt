@@ -5,7 +5,7 @@ use mathlib.Core.Logic.{_↔_}
 use mathlib.Core.Bool.{true, false}
 use mathlib.Core.List.{List, map}
 use mathlib.Core.Option.{none, some}
-use Prim.Native.Nat.{ℕ, suc, _+_, _-_, _/_, _≤_, _<_}
+use Prim.Native.Nat.{ℕ, _+_, _-_, _/_, _≤_, _<_}
 use lib.Ieee.{Float, lt}
 use lib.ListN.{length}
 use Rattle.scope.specs.Lists.{_∈_, Distinct}
@@ -17,7 +17,7 @@ use Rattle.scope.specs.Tree.{Run, direct, inside, choice, cut, Tree, grown, tre
 use Rattle.demand.specs.Reached.{ruling, isCut, Reached, Chosen, CutAt, CutBy}
 use Rattle.demand.specs.Grows.{Grows, directs}
 use Rattle.demand.specs.Offered.{Offered, Greatest}
-use Rattle.demand.specs.Spaced.{Spaced}
+use Rattle.demand.specs.Spaced.{Spaced, lastGap}
 use Rattle.demand.specs.Told.{segmentOf, Told}
 use Rattle.demand.specs.AllZero.{AllZero}
 use Rattle.demand.specs.Levels.{levels, mostLevels}
@@ -32,8 +32,8 @@ pub record Demand (q : Run) : Type 0 where
   pub ascending : Ascending 0 (sheet (treeOf q))
   -- no cut lies in a forbidden (a, b]
   pub free : (x : ℕ) → x ∈ sheet (treeOf q) → (a b : ℕ) → Pair a b (q .forbidden) → a < x → x ≤ b → ⊥
-  -- with cuts, every gap, the run's ends included, is at least m, and the last more than m
-  pub gaps : 0 < length (sheet (treeOf q)) → Spaced (q .shortest .m) (suc (q .shortest .m)) 0 (sheet (treeOf q)) (q .n)
+  -- with cuts, every gap, the run's ends included, is at least m, and the last more than m, with the closed end at least m
+  pub gaps : 0 < length (sheet (treeOf q)) → Spaced (q .shortest .m) (lastGap (q .shortest)) 0 (sheet (treeOf q)) (q .n)
   -- ---- when a segment is cut
   -- a segment is cut exactly when the greatest of the numeric gains, over its own allowed rows and those of the seeded segments inside it, exceeds the threshold
   pub when : (start stop : ℕ) → (isCut (ruling q start stop) ≡ true) ↔ ((g : Float) × Greatest q start stop g × (lt (q .threshold) g ≡ true))
@@ -65,11 +65,11 @@ pub record Demand (q : Run) : Type 0 where
   -- ---- how many
   -- the number of nodes is the preorder's length
   pub counted : (p : ℕ) → nodeCount (treeOf q) ≡ length (nodes p (treeOf q))
-  -- it is at most B = max(1, 2*floor((n-1)/m)-1)
+  -- it is at most B = max(1, 2*floor((n-1)/m)-1), with the closed end max(1, 2*floor(n/m)-1)
   pub few-nodes : nodeCount (treeOf q) ≤ mostNodes (q .n) (q .shortest)
   -- all-zero readings reach that bound, at a threshold below 0 and with nothing forbidden
   pub most-nodes : (cells : List Float) (d : ℕ) → AllZero q cells d → nodeCount (treeOf q) ≡ mostNodes (q .n) (q .shortest)
-  -- at most max(1, floor((n-1)/m)) levels, which is how deep growth calls itself
+  -- at most max(1, floor((n-1)/m)) levels, with the closed end max(1, floor(n/m)), which is how deep growth calls itself
   pub few-levels : levels (treeOf q) ≤ mostLevels (q .n) (q .shortest)
   -- all-zero readings reach that bound too
   pub most-levels : (cells : List Float) (d : ℕ) → AllZero q cells d → levels (treeOf q) ≡ mostLevels (q .n) (q .shortest)

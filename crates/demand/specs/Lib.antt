@@ -6,5 +6,6 @@ pub mod Grows
 pub mod Told
 pub mod AllZero
 pub mod Levels
+pub mod ClosedEnd
 pub mod Demand
 pub mod Printed

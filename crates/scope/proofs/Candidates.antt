@@ -8,12 +8,25 @@ use native.Mathlib.Omega.{arith}
 use borrow.Author.Tests.{ltb-true, ltb-false, leb-true, lt-ltb, le-leb, leb-false}
 use lib.Dec.{ltb, leb}
 use Rattle.scope.specs.Lists.{upward, keep, select, isEmpty}
-use Rattle.scope.specs.Asked.{Shortest}
+use Rattle.scope.specs.Asked.{Shortest, oneMore, endOf}
 use Rattle.scope.specs.Refusals.{test, firstOf, outside, no9}
 use Rattle.scope.specs.Candidates.{isBarred, rangeSize, candidates, allBarred, no10}
 use Rattle.scope.specs.Allowed.{Pair, here, later, Allowed, Ascending}
 use Rattle.scope.proofs.Never.{never}
 use Rattle.scope.proofs.Lists.{select-are, select-all, upward-are}
+
+-- ---- the closed end adds one row at most
+pub one-at-most : (s : Shortest) → oneMore s ≤ 1
+unfolding oneMore
+one-at-most s = go (s .closed)
+  where
+    go : (b : Bool) → cond b 1 0 ≤ 1
+    go true = omega arith
+    go false = omega arith
+
+-- counted from the start of the segment, or of the run
+pub end-from : (s : Shortest) (start stop : ℕ) → start ≤ stop → endOf s (stop - start) ≡ endOf s stop - start
+end-from s start stop h = omega arith
 
 -- ---- barred, by a pair
 pub or-false : (a b : Bool) → a || b ≡ false → (a ≡ false) × (b ≡ false)
@@ -55,11 +68,11 @@ pub candidates-are : (s : Shortest) (forbidden : List ℕ) (start stop x : ℕ) 
 unfolding candidates rangeSize
 candidates-are s ps start stop x = (
   λ i.
-      let (j, t) = select-are (λ y. not (isBarred ps y)) (upward (start + s .m) (stop - start - 2 * s .m)) x i in
-      let (l, h) = upward-are (start + s .m) (stop - start - 2 * s .m) x .0 j in
+      let (j, t) = select-are (λ y. not (isBarred ps y)) (upward (start + s .m) (endOf s stop - start - 2 * s .m)) x i in
+      let (l, h) = upward-are (start + s .m) (endOf s stop - start - 2 * s .m) x .0 j in
       record { low = l; high = omega arith; free = free-of ps x (not-true (isBarred ps x) t) },
   λ w.
-      select-all (λ y. not (isBarred ps y)) (upward (start + s .m) (stop - start - 2 * s .m)) x (upward-are (start + s .m) (stop - start - 2 * s .m) x .1 (w .low, omega arith)) (ap not (barred-not ps x (w .free))),
+      select-all (λ y. not (isBarred ps y)) (upward (start + s .m) (endOf s stop - start - 2 * s .m)) x (upward-are (start + s .m) (endOf s stop - start - 2 * s .m) x .1 (w .low, omega arith)) (ap not (barred-not ps x (w .free))),
 )
 
 -- ---- ascending
@@ -91,20 +104,20 @@ candidates-ascend s ps start stop =
     select-ascends (λ x. not (isBarred ps x)) (start + s .m) (upward (start + s .m) (rangeSize s start stop)) (upward-ascends (start + s .m) (rangeSize s start stop))
 
 -- ---- "Refused exactly if no such row exists, by 9 or 10."
-none-in : (s : Shortest) (ps : List ℕ) (start stop : ℕ) → stop - start ≤ 2 * s .m → isEmpty (candidates s ps start stop) ≡ true
+none-in : (s : Shortest) (ps : List ℕ) (start stop : ℕ) → endOf s stop - start ≤ 2 * s .m → isEmpty (candidates s ps start stop) ≡ true
 unfolding candidates rangeSize upward select
-none-in s ps start stop h = let e : stop - start - 2 * s .m ≡ 0 = omega arith in rw e
+none-in s ps start stop h = let e : endOf s stop - start - 2 * s .m ≡ 0 = omega arith in rw e
 
 pub refusal-9-10 : (s : Shortest) (forbidden : List ℕ) (start stop : ℕ)
-    → firstOf (no9 s (stop - start) ∷ no10 s forbidden start stop ∷ []) ≡ cond (isEmpty (candidates s forbidden start stop)) (cond (leb (stop - start) (2 * s .m)) 9 10) 0
+    → firstOf (no9 s start stop ∷ no10 s forbidden start stop ∷ []) ≡ cond (isEmpty (candidates s forbidden start stop)) (cond (leb (endOf s stop - start) (2 * s .m)) 9 10) 0
 unfolding rangeSize allBarred
-refusal-9-10 s ps start stop = go (leb (stop - start) (2 * s .m)) refl
+refusal-9-10 s ps start stop = go (leb (endOf s stop - start) (2 * s .m)) refl
   where
     some : (b : Bool) → firstOf (test b 10 ∷ []) ≡ cond b 10 0
     some true = refl
     some false = refl
 
-    go : (b : Bool) → leb (stop - start) (2 * s .m) ≡ b
-        → firstOf (test b 9 ∷ test (ltb 0 (stop - start - 2 * s .m) && isEmpty (candidates s ps start stop)) 10 ∷ []) ≡ cond (isEmpty (candidates s ps start stop)) (cond b 9 10) 0
+    go : (b : Bool) → leb (endOf s stop - start) (2 * s .m) ≡ b
+        → firstOf (test b 9 ∷ test (ltb 0 (endOf s stop - start - 2 * s .m) && isEmpty (candidates s ps start stop)) 10 ∷ []) ≡ cond (isEmpty (candidates s ps start stop)) (cond b 9 10) 0
     go true e = rw (none-in s ps start stop (leb-true _ _ e))
-    go false e = let long = leb-false (stop - start) (2 * s .m) e in let pos : 0 < stop - start - 2 * s .m = omega arith in rw (lt-ltb 0 (stop - start - 2 * s .m) pos) (some (isEmpty (candidates s ps start stop)))
+    go false e = let long = leb-false (endOf s stop - start) (2 * s .m) e in let pos : 0 < endOf s stop - start - 2 * s .m = omega arith in rw (lt-ltb 0 (endOf s stop - start - 2 * s .m) pos) (some (isEmpty (candidates s ps start stop)))

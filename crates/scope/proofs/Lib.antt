@@ -6,6 +6,7 @@ pub mod Members
 pub mod Every
 pub mod Lowest
 pub mod Candidates
+pub mod ClosedEnd
 pub mod Sums
 pub mod Guesses
 pub mod Greatest

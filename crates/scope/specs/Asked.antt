@@ -1,6 +1,7 @@
 -- What a call is asked, in small records: a later setting is one field of one of them.
+use mathlib.Core.Bool.{Bool, cond}
 use mathlib.Core.List.{List}
-use Prim.Native.Nat.{ℕ}
+use Prim.Native.Nat.{ℕ, _+_}
 use lib.Ieee.{Float}
 
 -- "A matrix is a lent f64 slice, row after row": n rows of d columns
@@ -9,9 +10,18 @@ pub record Matrix : Type 0 where
   pub n : ℕ
   pub d : ℕ
 
--- the shortest part that a split may leave: m rows
+-- the shortest part that a split may leave: m rows; and whether the end is closed, so that the last part may have m rows too
 pub record Shortest : Type 0 where
   pub m : ℕ
+  pub closed : Bool
+
+-- "The range stops one short at the right end." One row more with the closed end: no other rule looks at the setting
+unfoldable pub oneMore : Shortest → ℕ
+oneMore s = cond (s .closed) 1 0
+
+-- the row that x+m stays below for a split x of [start, stop): stop, or one more
+abbrev pub endOf : Shortest → ℕ → ℕ
+endOf s stop = stop + oneMore s
 
 -- the settings of a run; the forbidden pairs stand flat, a then b
 pub record Settings : Type 0 where

@@ -47,7 +47,7 @@ lengthTests r n = no1-rows n ∷ no2-relative r ∷ []
 unfoldable pub lengthAnswer : Float → ℕ → Answer ℕ
 lengthAnswer r n = unless (firstOf (lengthTests r n)) (minimalLength r n)
 
--- ---- split_candidates: the list "written ascending, its length told, into a lent slice of at least stop-start-2m entries"
+-- ---- split_candidates: the list "written ascending, its length told, into a lent slice of at least stop-start-2m entries", with the closed end one more
 pub record CandidatesAsked : Type 0 where
   pub n : ℕ
   pub shortest : Shortest
@@ -63,7 +63,7 @@ candidatesTests a =
     ∷ no5 (a .forbidden)
     ∷ no7 (rangeSize (a .shortest) (a .start) (a .stop)) (a .room)
     ∷ no8 (a .n) (a .start) (a .stop)
-    ∷ no9 (a .shortest) (a .stop - a .start)
+    ∷ no9 (a .shortest) (a .start) (a .stop)
     ∷ no10 (a .shortest) (a .forbidden) (a .start) (a .stop)
     ∷ []
 
@@ -126,7 +126,7 @@ searchTests a =
     ∷ no5 (a .forbidden)
     ∷ no7 (sumsRoom (a .matrix)) (a .room)
     ∷ no8 (a .matrix .n) (a .start) (a .stop)
-    ∷ no9 (a .shortest) (a .stop - a .start)
+    ∷ no9 (a .shortest) (a .start) (a .stop)
     ∷ no10 (a .shortest) (a .forbidden) (a .start) (a .stop)
     ∷ []
 
@@ -374,7 +374,7 @@ pickTests a =
     ∷ no2 (a .shortest)
     ∷ no5 (a .forbidden)
     ∷ no8 (a .n) (a .start) (a .stop)
-    ∷ no9 (a .shortest) (a .stop - a .start)
+    ∷ no9 (a .shortest) (a .start) (a .stop)
     ∷ no10 (a .shortest) (a .forbidden) (a .start) (a .stop)
     ∷ test (not (isMember (a .guess) (candidates (a .shortest) (a .forbidden) (a .start) (a .stop)))) 12
     ∷ test (not (eqb (length (a .curve)) (a .stop - a .start))) 12
@@ -401,7 +401,7 @@ guessesTests a =
     ∷ no2 (a .shortest)
     ∷ no5 (listed (a .forbidden))
     ∷ no8 (a .n) (a .start) (a .stop)
-    ∷ no9 (a .shortest) (a .stop - a .start)
+    ∷ no9 (a .shortest) (a .start) (a .stop)
     ∷ no10 (a .shortest) (listed (a .forbidden)) (a .start) (a .stop)
     ∷ []
 
@@ -443,7 +443,7 @@ permutationTests a =
     no2 (a .shortest)
     ∷ no3-alpha (a .alpha)
     ∷ no4 (a .maximum ∷ a .bases ++ flatten (a .curves))
-    ∷ no9 (a .shortest) L
+    ∷ no9 (a .shortest) 0 L
     ∷ no11 (a .P) L (a .permutations)
     ∷ test (outside mostCurves (a .k)) 12
     ∷ no12-lengths L (a .curves)

@@ -13,6 +13,7 @@ pub mod Grid
 pub mod Greatest
 pub mod Layers
 pub mod Tree
+pub mod ClosedEnd
 pub mod Neighbours
 pub mod Curves
 pub mod Permutations

@@ -1,5 +1,5 @@
 -- The program: the whole input's bytes to the whole output's bytes.
-use mathlib.Core.Bool.{Bool, cond, _||_, not}
+use mathlib.Core.Bool.{Bool, false, cond, _||_, not}
 use mathlib.Core.List.{List, [], _∷_, _++_, map}
 use mathlib.Core.Option.{Option, none, some}
 use Prim.Native.Nat.{ℕ, zero, suc, _+_, _-_, _*_}
@@ -138,12 +138,12 @@ wrongDeck deck =
 unfoldable pub wrongPairs : List ℕ → Bool
 wrongPairs forbidden = ltb (2 * 64) (length forbidden) || not (wellPaired forbidden)
 
--- what the tree is asked for a deck
+-- what the tree is asked for a deck: the end is not closed
 abbrev pub deckMatrix : Deck → Matrix
 deckMatrix deck = record { cells = map (ofInt binary64) (deck .cells); n = deck .n; d = deck .d }
 
 abbrev pub deckSettings : Deck → Settings
-deckSettings deck = record { shortest = record { m = deck .m }; threshold = ofBits binary64 (deck .threshold); forbidden = deck .forbidden; layers = [] }
+deckSettings deck = record { shortest = record { m = deck .m; closed = false }; threshold = ofBits binary64 (deck .threshold); forbidden = deck .forbidden; layers = [] }
 
 abbrev pub deckTests : Deck → List Test
 deckTests deck =

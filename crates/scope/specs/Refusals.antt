@@ -8,7 +8,7 @@ use lib.ListN.{length}
 use lib.Ieee.{Float, fin, lt, le, isNan}
 use Rattle.scope.specs.Floats.{+0, half, isFinite}
 use Rattle.scope.specs.Lists.{every}
-use Rattle.scope.specs.Asked.{Matrix, Shortest}
+use Rattle.scope.specs.Asked.{Matrix, Shortest, endOf}
 
 -- ---- "The lowest number that applies is given."
 
@@ -134,6 +134,6 @@ no8-split start stop split = test (wrongSplit start stop split) 8
 abbrev pub no8-empty : ℕ → ℕ → Test
 no8-empty start stop = test (eqb start stop) 8
 
--- ---- 9: "2*m >= stop-start"; permutation counts: "2*m >= L"
-abbrev pub no9 : Shortest → ℕ → Test
-no9 s long = test (leb long (2 * s .m)) 9
+-- ---- 9: "2*m >= stop-start", with the closed end "2*m > stop-start"; permutation counts: L from 0
+abbrev pub no9 : Shortest → ℕ → ℕ → Test
+no9 s start stop = test (leb (endOf s stop - start) (2 * s .m)) 9

@@ -6,7 +6,7 @@ use Prim.Native.Nat.{ℕ, zero, suc, _+_, _-_, _*_, _/_, max}
 use lib.Dec.{leb}
 use lib.Ieee.{Float, lt}
 use Rattle.scope.specs.Lists.{keep}
-use Rattle.scope.specs.Asked.{Shortest}
+use Rattle.scope.specs.Asked.{Shortest, endOf}
 use Rattle.scope.specs.Grid.{Record, best, search}
 use Rattle.scope.specs.Layers.{Segment, one, stored}
 
@@ -119,6 +119,6 @@ cuts (node start stop c l r) = cuts l ++ (c ∷ cuts r)
 unfoldable pub sheet : Tree → List ℕ
 sheet t = map (λ (r : Record). r .split) (cuts t)
 
--- "B = max(1, 2*floor((n-1)/m)-1)"
+-- "B = max(1, 2*floor((n-1)/m)-1)", with the closed end "max(1, 2*floor(n/m)-1)"
 abbrev pub mostNodes : ℕ → Shortest → ℕ
-mostNodes n s = max 1 (2 * ((n - 1) / s .m) - 1)
+mostNodes n s = max 1 (2 * ((endOf s n - 1) / s .m) - 1)
