@@ -18,11 +18,14 @@ use Rattle.scope.specs.Refusals.{test, outside, mostColumns, wellPaired, wrongM
 use Rattle.scope.specs.Layers.{layersTotal}
 use Rattle.scope.specs.Tree.{mostNodes}
 use Rattle.scope.specs.Calls.{treeRefusal}
-use Rattle.scope.specs.Asked.{Shortest}
+use Rattle.scope.specs.ClosedEnd.{off}
 use Rattle.scope.specs.Program.{Deck, deckTests, deckRefusal, wrongDeck, wrongPairs, isReading, deckMatrix, deckSettings}
 use Rattle.scope.proofs.Members.{first-of, second-of}
 use Rattle.scope.proofs.Candidates.{or-false, not-outside}
+use Rattle.scope.proofs.ClosedEnd.{as-the-rust}
 use Rattle.control.proofs.Clean.{passed}
+use Rattle.entry_tree.specs.Answers.{nodeRoom}
+use Rattle.entry_tree.proofs.Room.{room-is}
 use Rattle.line.specs.declared.Given.{Given}
 use Rattle.limits.specs.Limits.{wrongGiven, wrongHeld, givenRefusal}
 use Rattle.answers.specs.Answered.{lent}
@@ -49,7 +52,7 @@ pub record GivenClean (g : Given) : Type 0 where
 pub given-clean : (g : Given) (forbidden : List ℕ) → givenRefusal g forbidden ≡ 0 → GivenClean g
 unfolding givenRefusal wrongGiven wrongHeld
 given-clean g forbidden e =
-    let p = passed (test (wrongGiven g) 1 ∷ no2 (record { m = g .m }) ∷ no3 (ofBits binary64 (g .threshold)) ∷ test (g .wide) 4 ∷ test (wrongHeld (g .pairs) forbidden) 5 ∷ []) tt e in
+    let p = passed (test (wrongGiven g) 1 ∷ no2 (record { m = g .m; closed = false }) ∷ no3 (ofBits binary64 (g .threshold)) ∷ test (g .wide) 4 ∷ test (wrongHeld (g .pairs) forbidden) 5 ∷ []) tt e in
     let held = or-false (ltb 64 (g .pairs)) (not (wellPaired (take (2 * g .pairs) forbidden))) (p .1 .1 .1 .1 .0) in
     record { sizes = sized (g .n) (g .d) (g .cells) (p .0); pairs = ltb-false 64 (g .pairs) (held .0) }
 
@@ -97,8 +100,8 @@ within : (most v : ℕ) → 1 ≤ v → v ≤ most → outside most v ≡ false
 unfolding outside
 within most v l h = rw (le-ltb v 1 l, le-ltb most v h)
 
-few-nodes : (n : ℕ) (short : Shortest) → n ≤ 256 → mostNodes n short ≤ 509
-few-nodes n short h = omega (arith, div-le-self (n - 1) (short .m))
+few-nodes : (n m : ℕ) → n ≤ 256 → mostNodes n (off m) ≤ 509
+few-nodes n m h = omega (arith, as-the-rust m .nodes n, div-le-self (n - 1) m)
 
 module _ (deck : Deck) (clean : DeckClean deck) where
   abbrev values : List Float
@@ -116,7 +119,7 @@ module _ (deck : Deck) (clean : DeckClean deck) where
   pub tree-clean : treeRefusal (record { matrix = deckMatrix deck; settings = deckSettings deck; room = lent }) ≡ 0
   unfolding treeRefusal wrongLayers layersTotal every
   tree-clean =
-      let nodes = few-nodes (deck .n) (deckSettings deck .shortest) (clean .sizes .rows .1) in
+      let nodes = few-nodes (deck .n) (deck .m) (clean .sizes .rows .1) in
       rw (
         right-matrix,
         within 4096 (deck .m) (clean .length-fits .0) (clean .length-fits .1),
@@ -125,6 +128,6 @@ module _ (deck : Deck) (clean : DeckClean deck) where
         clean .paired,
         le-ltb 2112 ((deck .n + 1) * deck .d) (omega (arith, add-mul (deck .n) 1 (deck .d), clean .sizes .size, clean .sizes .columns .1)),
         le-ltb 509 (0 + most) (omega arith),
-        le-ltb 8189 most (omega arith),
+        le-ltb nodeRoom most (omega (arith, room-is)),
         le-ltb 254 ((most - 1) / 2) (omega arith),
       )

@@ -91,7 +91,10 @@ fn grow(
 {
     let len = deck.n * deck.d;
     let end = 2 * deck.pairs;
-    let shortest = Shortest { m: deck.m };
+    let shortest = Shortest {
+        m: deck.m,
+        closed: false,
+    };
     let threshold = limits::threshold(deck.threshold);
     let settings = Settings {
         shortest,

@@ -28,6 +28,7 @@ use Rattle.node.specs.Nodes.{toNode, leafOf, cutOf}
 use Rattle.binary_segmentation.specs.Growth.{Lent, stored, judgedOf, behind, behindCut, Judging, Written, Growing, Sound, Fits, Sized}
 use Rattle.demand.proofs.Records.{direct-found, one-found}
 use Rattle.demand.proofs.Inside.{inside-are}
+use Rattle.scope.proofs.Candidates.{one-at-most}
 use Rattle.scope.proofs.Greatest.{first-one}
 use Rattle.scope.proofs.Never.{never}
 use Rattle.scope.proofs.Stored.{one-few}
@@ -49,10 +50,10 @@ module _ (q : Run) where
       go none e = never (cc)
       go (some r) e = test r (lt (q .threshold) (r .gain)) refl e
 
-  pub direct-sound : (start stop : ℕ) (r : Record) → direct q start stop ≡ some r → (t : Float) → lt t (r .gain) ≡ true → (r .start + q .shortest .m ≤ r .split) × (r .split + q .shortest .m < r .stop)
-  direct-sound start stop r h t k = let f = direct-found q start stop r h in let w = f .row t k in (omega (arith, f .start-is, w .low), omega (arith, f .stop-is, w .high))
+  pub direct-sound : (start stop : ℕ) (r : Record) → direct q start stop ≡ some r → (t : Float) → lt t (r .gain) ≡ true → (r .start + q .shortest .m ≤ r .split) × (r .split + q .shortest .m ≤ r .stop)
+  direct-sound start stop r h t k = let f = direct-found q start stop r h in let w = f .row t k in (omega (arith, f .start-is, w .low), omega (arith, f .stop-is, w .high, one-at-most (q .shortest)))
 
-  pub cut-within : (rs : List Record) (start stop : ℕ) (c : Record) → Sound (q .shortest) rs → verdict q rs start stop ≡ cut c → (start + q .shortest .m ≤ c .split) × (c .split + q .shortest .m < stop)
+  pub cut-within : (rs : List Record) (start stop : ℕ) (c : Record) → Sound (q .shortest) rs → verdict q rs start stop ≡ cut c → (start + q .shortest .m ≤ c .split) × (c .split + q .shortest .m ≤ stop)
   cut-within rs start stop c sound h =
       let (e, t) = cut-chosen rs start stop c h in
       let (d, f, g) = choice-of q rs start stop c e in

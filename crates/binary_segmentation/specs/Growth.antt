@@ -72,7 +72,7 @@ pub record Growing (q : Run) (start stop : ℕ) (at : Counts) (l l′ : Lent) (n
 
 -- a record whose gain is above anything splits its segment m or more from both ends
 abbrev pub Sound : Shortest → List Record → Type 0
-Sound short rs = (r : Record) → r ∈ rs → (t : Float) → lt t (r .gain) ≡ true → (r .start + short .m ≤ r .split) × (r .split + short .m < r .stop)
+Sound short rs = (r : Record) → r ∈ rs → (t : Float) → lt t (r .gain) ≡ true → (r .start + short .m ≤ r .split) × (r .split + short .m ≤ r .stop)
 
 -- there is room at some fuel that is enough: a node and a record for each segment
 pub record Fits (q : Run) (start stop : ℕ) (at : Counts) (l : Lent) : Type 0 where

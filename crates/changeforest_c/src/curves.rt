@@ -31,13 +31,14 @@ pub extern "C" fn changeforest_permutation_test(
     permutations: &[usize],
     p: usize,
     m: usize,
+    closed: bool,
     alpha: f64,
     maximum: f64,
     counter: &mut usize,
     p_value: &mut f64,
     significant: &mut bool,
 ) -> u32
-    ensures { λ r. ⌜ PermutationStored (record { shortest = record { m = m }; alpha = alpha; maximum = maximum; k = k; bases = base0 ∷ base1 ∷ base2 ∷ []; curves = now (deltas0 .entry) ∷ now (deltas1 .entry) ∷ now (deltas2 .entry) ∷ []; P = p; permutations = now (permutations .entry) }) r (now (counter .entry)) (now (counter .exit)) (now («p_value» .entry)) (now («p_value» .exit)) (now (significant .entry)) (now (significant .exit)) ⌝ }
+    ensures { λ r. ⌜ PermutationStored (record { shortest = record { m = m; closed = closed }; alpha = alpha; maximum = maximum; k = k; bases = base0 ∷ base1 ∷ base2 ∷ []; curves = now (deltas0 .entry) ∷ now (deltas1 .entry) ∷ now (deltas2 .entry) ∷ []; P = p; permutations = now (permutations .entry) }) r (now (counter .entry)) (now (counter .exit)) (now («p_value» .entry)) (now («p_value» .exit)) (now (significant .entry)) (now (significant .exit)) ⌝ }
 {
     let answer = entry_curves::permutation_test(
         deltas0,
@@ -49,7 +50,7 @@ pub extern "C" fn changeforest_permutation_test(
         k,
         permutations,
         p,
-        Shortest { m },
+        Shortest { m, closed },
         alpha,
         maximum,
     );

@@ -12,17 +12,18 @@ ghost use Rattle.changeforest_c.specs.Stored.{CandidatesStored, GainStor
 pub extern "C" fn changeforest_split_candidates(
     n: usize,
     m: usize,
+    closed: bool,
     forbidden: &[usize],
     start: usize,
     stop: usize,
     rows: &mut [usize],
     count: &mut usize,
 ) -> u32
-    ensures { λ r. ⌜ CandidatesStored (record { n = n; shortest = record { m = m }; forbidden = now (forbidden .entry); start = start; stop = stop; room = length (now (rows .entry)) }) r (now (rows .entry)) (now (rows .exit)) (now (count .entry)) (now (count .exit)) ⌝ }
+    ensures { λ r. ⌜ CandidatesStored (record { n = n; shortest = record { m = m; closed = closed }; forbidden = now (forbidden .entry); start = start; stop = stop; room = length (now (rows .entry)) }) r (now (rows .entry)) (now (rows .exit)) (now (count .entry)) (now (count .exit)) ⌝ }
 {
     let answer = entry_mean::split_candidates(
         n,
-        Shortest { m },
+        Shortest { m, closed },
         forbidden,
         Position(start),
         Position(stop),
@@ -76,6 +77,7 @@ pub extern "C" fn changeforest_find_best_split(
     n: usize,
     d: usize,
     m: usize,
+    closed: bool,
     forbidden: &[usize],
     start: usize,
     stop: usize,
@@ -83,13 +85,13 @@ pub extern "C" fn changeforest_find_best_split(
     split: &mut usize,
     gain: &mut f64,
 ) -> u32
-    ensures { λ r. ⌜ SearchStored (record { matrix = record { cells = now (cells .entry); n = n; d = d }; shortest = record { m = m }; forbidden = now (forbidden .entry); start = start; stop = stop; room = length (now (sums .entry)) }) r (now (sums .entry)) (now (sums .exit)) (now (split .entry)) (now (split .exit)) (now (gain .entry)) (now (gain .exit)) ⌝ }
+    ensures { λ r. ⌜ SearchStored (record { matrix = record { cells = now (cells .entry); n = n; d = d }; shortest = record { m = m; closed = closed }; forbidden = now (forbidden .entry); start = start; stop = stop; room = length (now (sums .entry)) }) r (now (sums .entry)) (now (sums .exit)) (now (split .entry)) (now (split .exit)) (now (gain .entry)) (now (gain .exit)) ⌝ }
 {
     let answer = entry_mean::find_best_split(
         cells,
         n,
         d,
-        Shortest { m },
+        Shortest { m, closed },
         forbidden,
         Position(start),
         Position(stop),

@@ -11,6 +11,7 @@ pub extern "C" fn changeforest_seeded_segments(
     n: usize,
     d: usize,
     m: usize,
+    closed: bool,
     forbidden: &[usize],
     layers: &[f64],
     sums: &mut [f64],
@@ -18,13 +19,13 @@ pub extern "C" fn changeforest_seeded_segments(
     gains: &mut [f64],
     count: &mut usize,
 ) -> u32
-    ensures { λ r. ⌜ SeededStored (record { cells = now (cells .entry); n = n; d = d }) (record { m = m }) (now (forbidden .entry)) (now (layers .entry)) r (record { sums = now (sums .entry); rows = now (rows .entry); gains = now (gains .entry) }) (record { sums = now (sums .exit); rows = now (rows .exit); gains = now (gains .exit) }) (now (count .entry)) (now (count .exit)) ⌝ }
+    ensures { λ r. ⌜ SeededStored (record { cells = now (cells .entry); n = n; d = d }) (record { m = m; closed = closed }) (now (forbidden .entry)) (now (layers .entry)) r (record { sums = now (sums .entry); rows = now (rows .entry); gains = now (gains .entry) }) (record { sums = now (sums .exit); rows = now (rows .exit); gains = now (gains .exit) }) (now (count .entry)) (now (count .exit)) ⌝ }
 {
     let answer = entry_segments::seeded_segments(
         cells,
         n,
         d,
-        Shortest { m },
+        Shortest { m, closed },
         forbidden,
         layers,
         sums,

@@ -12,6 +12,7 @@ pub extern "C" fn changeforest_tree(
     n: usize,
     d: usize,
     m: usize,
+    closed: bool,
     threshold: f64,
     forbidden: &[usize],
     layers: &[f64],
@@ -22,9 +23,9 @@ pub extern "C" fn changeforest_tree(
     cuts: &mut [usize],
     counts: &mut [usize],
 ) -> u32
-    ensures { λ r. ⌜ TreeStored (record { cells = now (cells .entry); n = n; d = d }) (record { shortest = record { m = m }; threshold = threshold; forbidden = now (forbidden .entry); layers = now (layers .entry) }) r (record { sums = now (sums .entry); rows = now (rows .entry); gains = now (gains .entry); nodes = now (nodes .entry); cuts = now (cuts .entry) }) (record { sums = now (sums .exit); rows = now (rows .exit); gains = now (gains .exit); nodes = now (nodes .exit); cuts = now (cuts .exit) }) (now (counts .entry)) (now (counts .exit)) ⌝ }
+    ensures { λ r. ⌜ TreeStored (record { cells = now (cells .entry); n = n; d = d }) (record { shortest = record { m = m; closed = closed }; threshold = threshold; forbidden = now (forbidden .entry); layers = now (layers .entry) }) r (record { sums = now (sums .entry); rows = now (rows .entry); gains = now (gains .entry); nodes = now (nodes .entry); cuts = now (cuts .entry) }) (record { sums = now (sums .exit); rows = now (rows .exit); gains = now (gains .exit); nodes = now (nodes .exit); cuts = now (cuts .exit) }) (now (counts .entry)) (now (counts .exit)) ⌝ }
 {
-    let shortest = Shortest { m };
+    let shortest = Shortest { m, closed };
     let settings = Settings {
         shortest,
         threshold,

@@ -12,6 +12,7 @@ pub extern "C" fn changeforest_pick(
     curve: &[f64],
     n: usize,
     m: usize,
+    closed: bool,
     forbidden: &[usize],
     start: usize,
     stop: usize,
@@ -19,12 +20,12 @@ pub extern "C" fn changeforest_pick(
     split: &mut usize,
     gain: &mut f64,
 ) -> u32
-    ensures { λ r. ⌜ PickStored (record { n = n; shortest = record { m = m }; forbidden = now (forbidden .entry); start = start; stop = stop; guess = guess; curve = now (curve .entry) }) r (now (split .entry)) (now (split .exit)) (now (gain .entry)) (now (gain .exit)) ⌝ }
+    ensures { λ r. ⌜ PickStored (record { n = n; shortest = record { m = m; closed = closed }; forbidden = now (forbidden .entry); start = start; stop = stop; guess = guess; curve = now (curve .entry) }) r (now (split .entry)) (now (split .exit)) (now (gain .entry)) (now (gain .exit)) ⌝ }
 {
     let answer = entry_two_step::pick(
         curve,
         n,
-        Shortest { m },
+        Shortest { m, closed },
         forbidden,
         Position(start),
         Position(stop),
@@ -45,6 +46,7 @@ pub extern "C" fn changeforest_pick(
 pub extern "C" fn changeforest_guesses(
     n: usize,
     m: usize,
+    closed: bool,
     given: bool,
     forbidden: &[usize],
     start: usize,
@@ -54,11 +56,11 @@ pub extern "C" fn changeforest_guesses(
     third: &mut usize,
     count: &mut usize,
 ) -> u32
-    ensures { λ r. ⌜ GuessesStored (record { n = n; shortest = record { m = m }; forbidden = listGiven given (now (forbidden .entry)); start = start; stop = stop }) r (now (first .entry)) (now (first .exit)) (now (second .entry)) (now (second .exit)) (now (third .entry)) (now (third .exit)) (now (count .entry)) (now (count .exit)) ⌝ }
+    ensures { λ r. ⌜ GuessesStored (record { n = n; shortest = record { m = m; closed = closed }; forbidden = listGiven given (now (forbidden .entry)); start = start; stop = stop }) r (now (first .entry)) (now (first .exit)) (now (second .entry)) (now (second .exit)) (now (third .entry)) (now (third .exit)) (now (count .entry)) (now (count .exit)) ⌝ }
 {
     let answer = entry_two_step::guesses(
         n,
-        Shortest { m },
+        Shortest { m, closed },
         given,
         forbidden,
         Position(start),

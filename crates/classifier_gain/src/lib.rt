@@ -4,7 +4,7 @@ use permutations::wrong_permutations;
 ghost use mathlib.Core.Path.{_≡_};
 ghost use mathlib.Core.Bool.{true, false, not, _||_};
 ghost use mathlib.Core.List.{[], _∷_, _++_, flatten};
-ghost use Prim.Native.Nat.{_+_, _-_, _*_, _<_, _≤_};
+ghost use Prim.Native.Nat.{_+_, _-_, _<_, _≤_};
 ghost use lib.ListN.{length, take};
 ghost use Rattle.scope.specs.Lists.{holding, every};
 ghost use Rattle.scope.specs.Curves.{totalOf, curve};
@@ -176,7 +176,7 @@ pub fn permutation_refusal(
         return 4;
     }
     let l = first_length(k, deltas0);
-    if l <= 2 * shortest.m {
+    if shortest.too_long_for(l) {
         return 9;
     }
     if wrong_permutations(p, l, permutations) {

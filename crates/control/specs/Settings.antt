@@ -7,7 +7,7 @@ use Rattle.control.specs.declared.Shortest.{Shortest}
 use Rattle.control.specs.declared.Settings.{Settings}
 
 abbrev pub shortestOf : Shortest → asked.Shortest
-shortestOf s = record { m = s .m }
+shortestOf s = record { m = s .m; closed = s .closed }
 
 abbrev pub settingsOf : Settings → List ℕ → List Float → asked.Settings
 settingsOf s forbidden layers =

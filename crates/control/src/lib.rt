@@ -5,9 +5,11 @@ ghost use mathlib.Core.Path.{_≡_};
 ghost use mathlib.Core.Bool.{true, false};
 ghost use mathlib.Core.List.{[], _∷_};
 ghost use Prim.Native.Nat.{_+_, _*_, _/_, _≤_, min};
+ghost use lib.Dec.{leb};
 ghost use lib.Ieee.{isNan};
 ghost use Rattle.scope.specs.Floats.{isFinite};
 ghost use Rattle.scope.specs.Lists.{every};
+ghost use Rattle.scope.specs.Asked.{oneMore, endOf};
 ghost use Rattle.scope.specs.Tree.{mostNodes};
 ghost use Rattle.scope.specs.Refusals.{firstOf, mostRows, outside, wrongMatrix, isBetween, wellPaired, wrongSegment, wrongSplit, no1, no1-rows, no2, no4, no5};
 ghost use Rattle.control.specs.Settings.{shortestOf};
@@ -21,9 +23,43 @@ pub const MOST_LENGTH: usize = 4096;
 
 pub const MOST_NEIGHBOURS: usize = 1024;
 
-// The shortest part that a split may leave: m rows.
+// The shortest part that a split may leave: m rows. The Rust wants one more in the last part; with the closed end m rows do there too.
 pub struct Shortest {
     pub m: usize,
+    pub closed: bool,
+}
+
+impl Shortest {
+    // One row more at the end of a range, where it is closed: all that the setting does.
+    pub fn one_more(self) -> usize
+        ensures { λ r. ⌜ (r ≡ oneMore (shortestOf self)) × (r ≤ 1) ⌝ }
+    {
+        if self.closed { 1 } else { 0 }
+    }
+
+    // The fewest rows that can be split: 2m+1, or 2m where the end is closed.
+    fn fewest_rows(self) -> usize
+        requires { ⌜ self .m ≤ 4096 ⌝ }
+        ensures { λ r. ⌜ r + oneMore (shortestOf self) ≡ 2 * self .m + 1 ⌝ }
+    {
+        2 * self.m + 1 - self.one_more()
+    }
+
+    // Whether so many rows are too few to be split.
+    pub fn too_long_for(self, rows: usize) -> bool
+        requires { ⌜ self .m ≤ 4096 ⌝ }
+        ensures { λ r. ⌜ r ≡ leb (endOf (shortestOf self) rows) (2 * self .m) ⌝ }
+    {
+        rows < self.fewest_rows()
+    }
+
+    // How many of n rows are shared out among parts of m: all but one, or all where the end is closed.
+    fn shared_rows(self, n: usize) -> usize
+        requires { ⌜ (1 ≤ n) × (n ≤ 4096) ⌝ }
+        ensures { λ r. ⌜ r + 1 ≡ endOf (shortestOf self) n ⌝ }
+    {
+        n + self.one_more() - 1
+    }
 }
 
 // The numbers that a run is asked with; its lists are lent beside them.
@@ -133,7 +169,7 @@ pub fn most_nodes(n: usize, shortest: Shortest) -> usize
     if n < 1 {
         return 1;
     }
-    let q = (n - 1) / shortest.m;
+    let q = shortest.shared_rows(n) / shortest.m;
     if q < 1 {
         return 1;
     }

@@ -70,7 +70,7 @@ pub fn permutation_test(
     }
     let l = classifier_gain::first_length(k, deltas0);
     let counter = permutation_test::permutation_count(
-        shortest.m,
+        shortest,
         maximum,
         k,
         base0,

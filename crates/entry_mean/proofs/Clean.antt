@@ -54,7 +54,7 @@ pub record SearchClean (a : SearchAsked) : Type 0 where
   pub length-fits : a .shortest .m ≤ 4096
   pub seg : (a .start ≤ a .stop) × (a .stop ≤ a .matrix .n)
   -- 9 and 10 don't apply either
-  pub some : firstOf (no9 (a .shortest) (a .stop - a .start) ∷ no10 (a .shortest) (a .forbidden) (a .start) (a .stop) ∷ []) ≡ 0
+  pub some : firstOf (no9 (a .shortest) (a .start) (a .stop) ∷ no10 (a .shortest) (a .forbidden) (a .start) (a .stop) ∷ []) ≡ 0
 
 pub search-clean : (a : SearchAsked) → searchRefusal a ≡ 0 → SearchClean a
 unfolding searchRefusal

@@ -7,16 +7,21 @@ use native.Mathlib.Nat.{div-le-self}
 use native.Mathlib.Omega.{arith}
 use borrow.Author.Tests.{le-ltb}
 use lib.Dec.{ltb}
-use Rattle.scope.specs.Asked.{Matrix, Shortest, Settings}
+use Rattle.scope.specs.Asked.{Matrix, Shortest, oneMore, endOf, Settings}
 use Rattle.scope.specs.Refusals.{Test, test, firstOf, wrongMatrix, mostRows, no2, no3, no4, no5, no6, no7}
 use Rattle.scope.specs.Layers.{layersTotal}
 use Rattle.scope.specs.Tree.{mostNodes}
 use Rattle.scope.specs.Calls.{sumsRoom, TreeAsked, treeRefusal}
+use Rattle.scope.proofs.Candidates.{one-at-most}
 use Rattle.control.proofs.Sizes.{matrix}
 use Rattle.entry_tree.specs.Answers.{nodeRoom}
 
+pub room-is : nodeRoom ≡ 8191
+unfolding oneMore
+room-is = refl
+
 enough : (n : ℕ) (short : Shortest) → n ≤ mostRows → mostNodes n short ≤ nodeRoom
-enough n short h = omega (arith, div-le-self (n - 1) (short .m))
+enough n short h = omega (arith, room-is, div-le-self (endOf short n - 1) (short .m), one-at-most short)
 
 -- the same number is given as with room for exactly the run's nodes
 module _ (x : Matrix) (s : Settings) (sums records cuts : ℕ) where

@@ -1,4 +1,5 @@
 -- The enum's cases, by the definitions' answers.
+use mathlib.Core.Bool.{true}
 use Prim.Native.Nat.{ℕ}
 use Rattle.scope.specs.Refusals.{mostRows, Answer, refused, given}
 use Rattle.scope.specs.Tree.{mostNodes}
@@ -10,6 +11,6 @@ abbrev pub grownOf : Answer Counts → Grown
 grownOf (refused k) = grown.Refused k
 grownOf (given c) = grown.Counted (record { nodes = c .nodes; records = c .records; cuts = c .cuts })
 
--- room for the nodes of any run: those of the most rows at m = 1
+-- room for the nodes of any run: those of the most rows at m = 1, with the closed end
 abbrev pub nodeRoom : ℕ
-nodeRoom = mostNodes mostRows (record { m = 1 })
+nodeRoom = mostNodes mostRows (record { m = 1; closed = true })

@@ -64,8 +64,8 @@ pub fn binary_segmentation(
     }
 }
 
-// The most nodes that any run has: those of 4,096 rows at m = 1.
-const MOST_NODES: usize = 8189;
+// The most nodes that any run has: those of 4,096 rows at m = 1, with the closed end.
+const MOST_NODES: usize = 8191;
 
 // The cuts, for a caller with no use for the nodes: their room is local.
 pub fn split_points(

@@ -53,7 +53,7 @@ pub fn search_segment(
     requires { ⌜ (stop .0 + 1) * d ≤ length (now sums) ⌝ }
     ensures { λ r. ⌜ r ≡ searchedOf (searched (gainOf (now (sums .entry)) d) (shortestOf shortest) (now (forbidden .entry)) (start .0) (stop .0)) ⌝ }
 {
-    if stop.0 - start.0 <= 2 * shortest.m {
+    if shortest.too_long_for(stop.0 - start.0) {
         return Searched::Refused(9);
     }
     if candidates::all_barred(forbidden, shortest, start, stop) {

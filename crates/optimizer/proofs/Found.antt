@@ -11,7 +11,7 @@ use Rattle.scope.specs.Floats.{lowest}
 use Rattle.scope.specs.Lists.{_∈_, isEmpty}
 use Rattle.scope.specs.Allowed.{Allowed}
 use Rattle.scope.specs.Refusals.{Answer, refused, given, unless}
-use Rattle.scope.specs.Asked.{Shortest}
+use Rattle.scope.specs.Asked.{Shortest, endOf}
 use Rattle.scope.specs.Candidates.{candidates}
 use Rattle.scope.specs.Greatest.{numeric, FirstGreatest, kept, taken}
 use Rattle.scope.specs.Grid.{Record, blank, best, trial, trials, ofSome, search}
@@ -31,7 +31,7 @@ module _ (gain : ℕ → ℕ → ℕ → Float) (short : Shortest) (ps : List �
 
   -- the answer for a list of candidates
   abbrev answered : List ℕ → Answer Record
-  answered l = unless (cond (isEmpty l) (cond (leb (stop - start) (2 * short .m)) 9 10) 0) (best (blank start stop) (map (trial gain start stop) l))
+  answered l = unless (cond (isEmpty l) (cond (leb (endOf short stop - start) (2 * short .m)) 9 10) 0) (best (blank start stop) (map (trial gain start stop) l))
 
   abbrev recorded : List ℕ → Option Record
   recorded l = ofSome (blank start stop) (map (trial gain start stop) l)
@@ -53,7 +53,7 @@ module _ (gain : ℕ → ℕ → ℕ → Float) (short : Shortest) (ps : List �
   found-search r h = search-is ∙ go (candidates short ps start stop) (sym answer-is ∙ h)
     where
       go : (l : List ℕ) → answered l ≡ given r → recorded l ≡ some r
-      go [] e = let (k, w) = two (leb (stop - start) (2 * short .m)) (best (blank start stop) []) in never (cc)
+      go [] e = let (k, w) = two (leb (endOf short stop - start) (2 * short .m)) (best (blank start stop) []) in never (cc)
       go (x ∷ l) e = cc
 
   -- it is a record of the segment
@@ -61,7 +61,7 @@ module _ (gain : ℕ → ℕ → ℕ → Float) (short : Shortest) (ps : List �
   found-ends r h = go (candidates short ps start stop) (sym answer-is ∙ h)
     where
       go : (l : List ℕ) → answered l ≡ given r → (r .start ≡ start) × (r .stop ≡ stop)
-      go [] e = let (k, w) = two (leb (stop - start) (2 * short .m)) (best (blank start stop) []) in never (cc)
+      go [] e = let (k, w) = two (leb (endOf short stop - start) (2 * short .m)) (best (blank start stop) []) in never (cc)
       go (x ∷ l) e =
           let is : best (blank start stop) (map (trial gain start stop) (x ∷ l)) ≡ r = cc in
           rw is at (best-ends gain start stop (blank start stop) (x ∷ l) refl refl)
@@ -86,7 +86,7 @@ module _ (gain : ℕ → ℕ → ℕ → Float) (short : Shortest) (ps : List �
       there (y ∷ l) k e x i = never (cc)
 
       back : (l : List ℕ) → ((x : ℕ) → x ∈ l → ⊥) → (k : ℕ) × (answered l ≡ refused k)
-      back [] f = two (leb (stop - start) (2 * short .m)) (best (blank start stop) [])
+      back [] f = two (leb (endOf short stop - start) (2 * short .m)) (best (blank start stop) [])
       back (x ∷ l) f = absurd (f x (List·Memᴰ·head refl))
 
   -- ---- "its gain is the first of the greatest numeric gains"

@@ -12,7 +12,7 @@ use lib.Ieee.{Float, lt}
 use lib.ListN.{length, getD, set, length-set, length-append}
 use lib.Seq.{getD-append-seam}
 use Rattle.scope.specs.Lists.{holding, upward, select, keep, isEmpty}
-use Rattle.scope.specs.Asked.{Shortest}
+use Rattle.scope.specs.Asked.{Shortest, endOf}
 use Rattle.scope.specs.Candidates.{isBarred, rangeSize, candidates, allBarred}
 use Rattle.scope.specs.Grid.{Record, better, best, trial, trials}
 use Rattle.scope.proofs.Lists.{select-append}
@@ -56,7 +56,7 @@ walked-few ps lo (suc k) = rw (← add-one) (go (isBarred ps (lo + k)) refl (wal
     go true h l = omega (arith, count-barred ps lo k (length (walked ps lo k)) h refl)
     go false h l = omega (arith, count-free ps lo k (length (walked ps lo k)) h refl)
 
-pub candidates-few : (short : Shortest) (ps : List ℕ) (a e : ℕ) → length (candidates short ps a e) ≤ e
+pub candidates-few : (short : Shortest) (ps : List ℕ) (a e : ℕ) → length (candidates short ps a e) ≤ endOf short e
 unfolding rangeSize
 candidates-few short ps a e = rw (← walked-all short ps a e) (omega (arith, walked-few ps (a + short .m) (rangeSize short a e)))
 

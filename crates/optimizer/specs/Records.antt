@@ -1,6 +1,6 @@
 -- The gain record and the search's answer: the code's types beside the definitions' values.
 use mathlib.Core.List.{List, [], _∷_}
-use Prim.Native.Nat.{ℕ, _-_}
+use Prim.Native.Nat.{ℕ}
 use lib.Ieee.{Float}
 use Rattle.scope.specs.Floats.{lowest}
 use Rattle.scope.specs.Asked.{Shortest}
@@ -48,4 +48,4 @@ splitFound (given r) = given (splitOf r)
 -- what a search of [start, stop) finds, once nothing lower than 9 applies
 unfoldable pub searched : (ℕ → ℕ → ℕ → Float) → Shortest → List ℕ → ℕ → ℕ → Answer Record
 searched gain short forbidden start stop =
-    unless (firstOf (no9 short (stop - start) ∷ no10 short forbidden start stop ∷ [])) (best (blank start stop) (trials gain short forbidden start stop))
+    unless (firstOf (no9 short start stop ∷ no10 short forbidden start stop ∷ [])) (best (blank start stop) (trials gain short forbidden start stop))

@@ -1,4 +1,5 @@
 // The permutation test of a curve's maximum. Inside the library. After document 01, "Permutation count", and classifier_gain.rs.
+use control::Shortest;
 ghost use mathlib.Core.Path.{_≡_};
 ghost use mathlib.Core.Bool.{true, false};
 ghost use Prim.Native.Nat.{_+_, _-_, _*_, _<_, _≤_};
@@ -102,7 +103,15 @@ fn reaches_maximum(
     false
 }
 
-// One permutation of l indices: from the bases add the first m - 1 permuted deltas; a sum must reach the maximum with one of the l - 2m + 1 that follow.
+// After how many indices of a permutation of l the sums are tested. The closed end changes nothing here: it admits l = 2m, which tests once.
+fn tested(shortest: Shortest, l: usize) -> usize
+    requires { ⌜ (2 * shortest .m ≤ l) × (l ≤ 4096) ⌝ }
+    ensures { λ r. ⌜ r ≡ l - 2 * shortest .m + 1 ⌝ }
+{
+    l - 2 * shortest.m + 1
+}
+
+// One permutation of l indices: from the bases add the first m - 1 permuted deltas; a sum must reach the maximum with one of those that are tested.
 fn exceeds_maximum(
     permutation: &[usize],
     bases: Sums,
@@ -111,15 +120,15 @@ fn exceeds_maximum(
     deltas1: &[f64],
     deltas2: &[f64],
     l: usize,
-    m: usize,
+    shortest: Shortest,
     maximum: f64,
 ) -> bool
-    requires { ⌜ (1 ≤ m) × (2 * m < l) × (l ≤ 4096) × (length (now permutation) ≡ l) ⌝ }
+    requires { ⌜ (1 ≤ shortest .m) × (2 * shortest .m ≤ l) × (l ≤ 4096) × (length (now permutation) ≡ l) ⌝ }
     requires { ⌜ Curves k l (now deltas0) (now deltas1) (now deltas2) × (every (λ v. ltb v l) (now permutation) ≡ true) ⌝ }
-    ensures { λ r. ⌜ r ≡ exceeds m l (lent k (bases .0) (bases .1) (bases .2)) (lent k (now (deltas0 .entry)) (now (deltas1 .entry)) (now (deltas2 .entry))) maximum (now (permutation .entry)) ⌝ }
+    ensures { λ r. ⌜ r ≡ exceeds (shortest .m) l (lent k (bases .0) (bases .1) (bases .2)) (lent k (now (deltas0 .entry)) (now (deltas1 .entry)) (now (deltas2 .entry))) maximum (now (permutation .entry)) ⌝ }
 {
-    let first = m - 1;
-    let stop = first + (l - 2 * m + 1);
+    let first = shortest.m - 1;
+    let stop = first + tested(shortest, l);
     let sums = sums_after(
         &permutation[..first],
         bases,
@@ -143,7 +152,7 @@ fn exceeds_maximum(
 
 // One more than how many of p permutations have a sum that reaches the maximum.
 pub fn permutation_count(
-    m: usize,
+    shortest: Shortest,
     maximum: f64,
     k: usize,
     base0: f64,
@@ -156,10 +165,10 @@ pub fn permutation_count(
     p: usize,
     permutations: &[usize],
 ) -> usize
-    requires { ⌜ (1 ≤ k) × (k ≤ 3) × (1 ≤ m) × (2 * m < l) ⌝ }
+    requires { ⌜ (1 ≤ k) × (k ≤ 3) × (1 ≤ shortest .m) × (2 * shortest .m ≤ l) ⌝ }
     requires { ⌜ wrongLengths l (lent k (now deltas0) (now deltas1) (now deltas2)) ≡ false ⌝ }
     requires { ⌜ wrongPermutations p l (now permutations) ≡ false ⌝ }
-    ensures { λ r. ⌜ r ≡ counter m l (lent k base0 base1 base2) (lent k (now (deltas0 .entry)) (now (deltas1 .entry)) (now (deltas2 .entry))) maximum (now (permutations .entry)) p ⌝ }
+    ensures { λ r. ⌜ r ≡ counter (shortest .m) l (lent k base0 base1 base2) (lent k (now (deltas0 .entry)) (now (deltas1 .entry)) (now (deltas2 .entry))) maximum (now (permutations .entry)) p ⌝ }
 {
     let mut counted = 1;
     for q in 0..p {
@@ -173,7 +182,7 @@ pub fn permutation_count(
             deltas1,
             deltas2,
             l,
-            m,
+            shortest,
             maximum,
         ) {
             counted += 1;

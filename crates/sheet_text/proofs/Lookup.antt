@@ -15,6 +15,7 @@ use Rattle.scope.specs.Tree.{Run, direct, seedRecords, inside, choice, chosen, 
 use Rattle.scope.specs.Program.{cutLines}
 use Rattle.demand.specs.Reached.{ruling}
 use Rattle.demand.specs.Grows.{Grows, asLeaf, asNode, directs}
+use Rattle.scope.proofs.Candidates.{one-at-most}
 use Rattle.scope.proofs.Greatest.{first-one}
 use Rattle.scope.proofs.Never.{never}
 use Rattle.demand.proofs.Records.{allowed, direct-first, one-found, rows}
@@ -51,7 +52,7 @@ module _ (q : Run) (least : 1 ≤ q .shortest .m) where
   unfolding trials
   direct-before start stop r is some-row =
       ⊎-elim (λ (e : r ≡ blank start stop). rw e some-row)
-      (λ i. let (x, j, e) = Memᴰ·of-map (trial (q .gain) start stop) (rows q start stop) i in let w = allowed q start stop x .0 j in rw (← e) (omega (arith, w .high)))
+      (λ i. let (x, j, e) = Memᴰ·of-map (trial (q .gain) start stop) (rows q start stop) i in let w = allowed q start stop x .0 j in rw (← e) (omega (arith, w .high, one-at-most (q .shortest))))
       (List·Memᴰ·cases-cons (first-one (direct-first q start stop r is)))
 
   directs-before : (start stop : ℕ) (t : Tree) → Grows q start stop t → start < stop → (r : Record) → r ∈ directs q t → r .split < stop

@@ -59,7 +59,7 @@ pub fn single_find_best_split(
     stop: Position,
     guess: Position,
 ) -> GainRecord
-    requires { ⌜ (start .0 ≤ stop .0) × (stop .0 ≤ 4096) × (shortest .m ≤ 4096) ⌝ }
+    requires { ⌜ (start .0 ≤ stop .0) × (stop .0 ≤ 4096) × (1 ≤ shortest .m) × (shortest .m ≤ 4096) ⌝ }
     requires { ⌜ length (now curve) ≡ stop .0 - start .0 ⌝ }
     ensures { λ r. ⌜ toRecord r ≡ picked (shortestOf shortest) (now (forbidden .entry)) (start .0) (stop .0) (guess .0) (now (curve .entry)) ⌝ }
 {

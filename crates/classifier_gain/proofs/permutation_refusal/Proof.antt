@@ -3,8 +3,7 @@ use mathlib.Core.Path.{_≡_, sym, _∙_, ap}
 use mathlib.Core.Bool.{true, false, not}
 use mathlib.Core.List.{List, [], _∷_}
 use Prim.Native.Nat.{ℕ}
-use native.Mathlib.Omega.{arith}
-use borrow.Author.Tests.{le-leb, lt-leb}
+use native.Mathlib.Nat.{sub-zero}
 use denote.Ref.{now}
 use lib.Ieee.{ofBits}
 use lib.ListN.{drop}
@@ -30,7 +29,7 @@ tests s = permutationTests (asked s)
 
 -- the tests of a length, and of the length that is judged
 abbrev judging : tie.Start → ℕ → List Test
-judging s l = let a = asked s in no9 (a .shortest) l ∷ no11 (a .P) l (a .permutations) ∷ test (outside mostCurves (a .k)) 12 ∷ no12-lengths l (a .curves) ∷ []
+judging s l = let a = asked s in no9 (a .shortest) 0 l ∷ no11 (a .P) l (a .permutations) ∷ test (outside mostCurves (a .k)) 12 ∷ no12-lengths l (a .curves) ∷ []
 
 abbrev judged : tie.After-first-length → List Test
 judged c = judging (c .before .before .before .before .before .before .before .before .before .before .before) (c .first-length .result)
@@ -48,7 +47,7 @@ left c =
 -- past 9 and 11
 past : (c : tie.Else5) → firstOf (drop 2 (judged (c .before .before .before .before))) ≡ firstOf (tests (c .before .before .before .before .before .before .before .before .before .before .before .before .before .before .before))
 past c =
-    answers (judged (c .before .before .before .before)) (false ∷ false ∷ []) (lt-leb _ _ (c .before .before .if4 .left), (sym (c .before .wrong-permutations .ensures) ∙ c .if5 .left, tt)) ∙ left (c .before .before .before .before)
+    answers (judged (c .before .before .before .before)) (false ∷ false ∷ []) (rw sub-zero (sym (c .before .before .before .too-long-for .ensures) ∙ c .before .before .if4 .left), (sym (c .before .wrong-permutations .ensures) ∙ c .if5 .left, tt)) ∙ left (c .before .before .before .before)
 
 returns : tie.Need-returns
 returns c = answers (tests (c .before .before .before .before .before .before)) (true ∷ []) (sym (c .before .is-outside .ensures) ∙ c .if1 .taken, tt)
@@ -63,15 +62,15 @@ returns-3 c =
     answers (tests (c .before .before .before .before .before .before .before .before .before .before)) (false ∷ false ∷ true ∷ [])
     (sym (c .before .before .before .before .before .is-outside .ensures) ∙ c .before .before .before .before .if1 .left, (ap not (sym (c .before .before .before .is-between .ensures)) ∙ c .before .before .if2 .left, (ap not (sym (c .before .all-finite .ensures)) ∙ c .if3 .taken, tt)))
 
-mul-if4 : tie.Need-mul-if4
-mul-if4 c = omega (arith, not-outside 4096 (c .before .before .before .before .before .before .before .before .before .before .before .before .args .shortest .m) (sym (c .before .before .before .before .before .before .before .is-outside .ensures) ∙ c .before .before .before .before .before .before .if1 .left))
+too-long-for-requires : tie.Need-too-long-for-requires
+too-long-for-requires c κs = not-outside 4096 (c .before .before .before .before .before .before .before .before .before .before .before .args .shortest .m) (sym (c .before .before .before .before .before .before .is-outside .ensures) ∙ c .before .before .before .before .before .if1 .left) .1
 
 returns-4 : tie.Need-returns-4
-returns-4 c = answers (judged (c .before .before)) (true ∷ []) (le-leb _ _ (c .if4 .taken), tt) ∙ left (c .before .before)
+returns-4 c = answers (judged (c .before .before)) (true ∷ []) (rw sub-zero (sym (c .before .too-long-for .ensures) ∙ c .if4 .taken), tt) ∙ left (c .before .before)
 
 returns-5 : tie.Need-returns-5
 returns-5 c =
-    answers (judged (c .before .before .before .before)) (false ∷ true ∷ []) (lt-leb _ _ (c .before .before .if4 .left), (sym (c .before .wrong-permutations .ensures) ∙ c .if5 .taken, tt)) ∙ left (c .before .before .before .before)
+    answers (judged (c .before .before .before .before)) (false ∷ true ∷ []) (rw sub-zero (sym (c .before .before .before .too-long-for .ensures) ∙ c .before .before .if4 .left), (sym (c .before .wrong-permutations .ensures) ∙ c .if5 .taken, tt)) ∙ left (c .before .before .before .before)
 
 returns-6 : tie.Need-returns-6
 returns-6 c = answers (drop 2 (judged (c .before .before .before .before .before .before))) (true ∷ []) (sym (c .before .is-outside2 .ensures) ∙ c .if6 .taken, tt) ∙ past (c .before .before)
@@ -99,7 +98,7 @@ permutation-refusal-spec =
     (λ c κs. search needs)
     returns-3
     (λ c κs. search needs)
-    mul-if4
+    too-long-for-requires
     returns-4
     (λ c κs. search needs)
     returns-5

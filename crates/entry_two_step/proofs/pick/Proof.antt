@@ -22,7 +22,7 @@ returns c = let no = c .before .pick-refusal in rw (← no .ensures) (sym (ap be
 single-find-best-split-requires : tie.Need-single-find-best-split-requires
 single-find-best-split-requires c κs =
     let (w, l) = pick-clean (asked (c .before .before .before .before)) (sym (c .before .pick-refusal .ensures) ∙ c .if1 .left) in
-    ((w .ordered, w .within, w .length-fits), l)
+    ((w .ordered, w .within, w .least, w .length-fits), l)
 
 returns-2 : tie.Need-returns-2
 unfolding pickAnswer

@@ -8,6 +8,7 @@ use denote.Ref.{now}
 use Rattle.scope.specs.Candidates.{rangeSize}
 use Rattle.scope.specs.Gain.{gainOf}
 use Rattle.scope.specs.Grid.{blank}
+use Rattle.scope.proofs.Candidates.{one-at-most}
 use Rattle.optimizer.specs.Records.{toRecord}
 use Rattle.optimizer.proofs.Walk.{bestWalked, best-none, best-barred, best-tried, best-all}
 use Rattle.control.specs.Settings.{shortestOf}
@@ -26,11 +27,11 @@ loop-holds c = let s = c .before .before .before .before .args in (omega arith, 
 
 range-row-requires : tie.Need-range-row-requires Inv-loop μ-loop
 unfolding rangeSize
-range-row-requires c κs = (omega arith, omega arith, omega arith)
+range-row-requires c κs = (omega arith, omega arith, omega (arith, one-at-most (shortestOf (c .before .before .before .before .before .before .args .shortest))))
 
 gain-requires : tie.Need-gain-requires Inv-loop μ-loop
 unfolding rangeSize
-gain-requires c κs = ((omega arith, omega arith, omega arith), omega arith)
+gain-requires c κs = let few = one-at-most (shortestOf (c .before .before .before .before .before .before .before .before .before .args .shortest)) in ((omega arith, omega arith, omega arith), omega arith)
 
 loop-again : tie.Need-loop-again Inv-loop μ-loop
 loop-again c =

@@ -19,11 +19,11 @@ use Rattle.permutation_test.proofs.permutation_count.Statement.{stateme
 use Rattle.permutation_test.proofs.permutation_count.Tie as tie
 
 abbrev Inv-loop : tie.InvT-loop
-Inv-loop m maximum k base0 base1 base2 deltas0 deltas1 deltas2 l p permutations counted₀ q₀ counted q =
-    (q ≤ p) × (counted ≡ counter m l (lent k base0 base1 base2) (lent k deltas0 deltas1 deltas2) maximum permutations q)
+Inv-loop shortest maximum k base0 base1 base2 deltas0 deltas1 deltas2 l p permutations counted₀ q₀ counted q =
+    (q ≤ p) × (counted ≡ counter (shortest .m) l (lent k base0 base1 base2) (lent k deltas0 deltas1 deltas2) maximum permutations q)
 
 abbrev μ-loop : tie.MeasureT-loop
-μ-loop m maximum k base0 base1 base2 deltas0 deltas1 deltas2 l p permutations counted₀ q₀ counted q = p - q
+μ-loop shortest maximum k base0 base1 base2 deltas0 deltas1 deltas2 l p permutations counted₀ q₀ counted q = p - q
 
 -- what the requirements say of the permutations
 right : (c : tie.Start Inv-loop μ-loop) → let a = c .args in (a .p ≤ 999) × (length (now (a .permutations)) ≡ a .p * a .l) × (allTrue (a .p) (a .l) (now (a .permutations)) ≡ true)
@@ -72,7 +72,7 @@ add-counted c =
     let s = c .before .before .before .before .before .before .before .before .before in
     let a = s .args in
     let at-loop = c .before .before .before .before .loop in
-    let most = counter-most (a .m) (a .l) (bases s) (curves s) (a .maximum) (now (a .permutations)) (at-loop .q) in
+    let most = counter-most (a .shortest .m) (a .l) (bases s) (curves s) (a .maximum) (now (a .permutations)) (at-loop .q) in
     omega (arith, at-loop .inv .1, right s .0)
 
 loop-again : tie.Need-loop-again Inv-loop μ-loop
@@ -81,7 +81,7 @@ loop-again c =
     let a = s .args in
     let at-loop = c .before .before .before .before .loop in
     let found = rw add-sub-cancel-left at (c .before .exceeds-maximum .ensures) in
-    let next = counter-next (a .m) (a .l) (bases s) (curves s) (a .maximum) (now (a .permutations)) (at-loop .q) in
+    let next = counter-next (a .shortest .m) (a .l) (bases s) (curves s) (a .maximum) (now (a .permutations)) (at-loop .q) in
     (omega arith, ⊎-elim (λ w. omega (arith, w .1, at-loop .inv .1, next true (sym found ∙ w .0 .taken))) (λ w. omega (arith, w .1, at-loop .inv .1, next false (sym found ∙ w .0 .left))) (c .if1 .came))
 
 returns : tie.Need-returns Inv-loop μ-loop

@@ -8,6 +8,7 @@ use denote.Ref.{now}
 use lib.ListN.{length, getD}
 use Rattle.scope.specs.Candidates.{rangeSize, candidates}
 use Rattle.optimizer.proofs.Walk.{walked, walked-all, numbered, count-none, count-barred, count-free}
+use Rattle.scope.proofs.Candidates.{one-at-most}
 use Rattle.control.specs.Settings.{shortestOf}
 use borrow.Author.Needs.{needs}
 use Rattle.two_step_search.proofs.candidate_number.Statement.{statement}
@@ -24,7 +25,7 @@ loop-holds c = (omega arith, omega arith, omega arith, count-none _ _)
 
 range-row-requires : tie.Need-range-row-requires Inv-loop μ-loop
 unfolding rangeSize
-range-row-requires c κs = (omega arith, omega arith, omega arith)
+range-row-requires c κs = (omega arith, omega arith, omega (arith, one-at-most (shortestOf (c .before .before .before .before .args .shortest))))
 
 returns : tie.Need-returns Inv-loop μ-loop
 returns c =

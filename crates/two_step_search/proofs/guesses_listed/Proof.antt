@@ -6,6 +6,7 @@ use denote.Ref.{now}
 use Rattle.scope.specs.Curves.{guesses}
 use mathlib.Core.Option.{some}
 use Rattle.two_step_search.proofs.Guessing.{filled-is}
+use Rattle.scope.proofs.Candidates.{one-at-most}
 use Rattle.optimizer.proofs.Walk.{candidates-few}
 use Rattle.control.specs.Settings.{shortestOf}
 use borrow.Author.Needs.{needs}
@@ -19,7 +20,7 @@ candidate-number-requires-2 : tie.Need-candidate-number-requires-2
 candidate-number-requires-2 c κs = (c .before .before .before .pre .0, omega (arith, c .before .count-candidates .ensures, c .before .before .before .pre .1))
 
 mul-candidate-number : tie.Need-mul-candidate-number
-mul-candidate-number c = let s = c .before .before .before .before .args in omega (arith, c .before .before .count-candidates .ensures, candidates-few (shortestOf (s .shortest)) (now (s .forbidden)) (s .start .0) (s .stop .0), c .before .before .before .before .pre .0)
+mul-candidate-number c = let s = c .before .before .before .before .args in omega (arith, c .before .before .count-candidates .ensures, candidates-few (shortestOf (s .shortest)) (now (s .forbidden)) (s .start .0) (s .stop .0), one-at-most (shortestOf (s .shortest)), c .before .before .before .before .pre .0)
 
 candidate-number-requires-3 : tie.Need-candidate-number-requires-3
 candidate-number-requires-3 c κs = (c .before .before .before .before .pre .0, omega (arith, c .before .before .count-candidates .ensures, c .before .before .before .before .pre .1))

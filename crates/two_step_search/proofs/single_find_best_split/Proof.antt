@@ -13,6 +13,7 @@ use Rattle.scope.specs.Grid.{Record}
 use Rattle.scope.specs.Curves.{picked}
 use Rattle.optimizer.specs.Records.{toRecord, guessed}
 use Rattle.optimizer.proofs.Walk.{bestWalked, best-none, best-barred, best-tried, best-all}
+use Rattle.scope.proofs.Candidates.{one-at-most}
 use Rattle.control.specs.Settings.{shortestOf}
 use borrow.Author.Needs.{needs}
 use Rattle.two_step_search.proofs.single_find_best_split.Statement.{statement}
@@ -34,11 +35,11 @@ loop-holds c = let s = c .before .before .before .before .args in let g = toReco
 
 range-row-requires : tie.Need-range-row-requires Inv-loop μ-loop
 unfolding rangeSize
-range-row-requires c κs = (omega arith, omega arith, omega arith)
+range-row-requires c κs = (omega arith, omega arith, omega (arith, one-at-most (shortestOf (c .before .before .before .before .before .before .args .shortest))))
 
 value-at-requires : tie.Need-value-at-requires Inv-loop μ-loop
 unfolding rangeSize
-value-at-requires c κs = omega arith
+value-at-requires c κs = omega (arith, one-at-most (shortestOf (c .before .before .before .before .before .before .before .before .before .before .args .shortest)))
 
 loop-again : tie.Need-loop-again Inv-loop μ-loop
 loop-again c =

@@ -12,7 +12,7 @@ abbrev asked : tie.Start → PermutationAsked
 asked s =
     let a = s .args in
     record {
-      shortest = record { m = a .m };
+      shortest = record { m = a .m; closed = a .closed };
       alpha = a .alpha;
       maximum = a .maximum;
       k = a .k;

@@ -9,7 +9,7 @@ use Rattle.changeforest_c.proofs.mean.changeforest_find_best_split.Stat
 use Rattle.changeforest_c.proofs.mean.changeforest_find_best_split.Tie as tie
 
 abbrev asked : tie.Start → SearchAsked
-asked s = record { matrix = record { cells = now (s .args .cells); n = s .args .n; d = s .args .d }; shortest = record { m = s .args .m }; forbidden = now (s .args .forbidden); start = s .args .start; stop = s .args .stop; room = length (now (s .args .sums)) }
+asked s = record { matrix = record { cells = now (s .args .cells); n = s .args .n; d = s .args .d }; shortest = record { m = s .args .m; closed = s .args .closed }; forbidden = now (s .args .forbidden); start = s .args .start; stop = s .args .stop; room = length (now (s .args .sums)) }
 
 returns : tie.Need-returns
 returns c =

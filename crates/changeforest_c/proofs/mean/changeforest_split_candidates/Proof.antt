@@ -9,7 +9,7 @@ use Rattle.changeforest_c.proofs.mean.changeforest_split_candidates.Sta
 use Rattle.changeforest_c.proofs.mean.changeforest_split_candidates.Tie as tie
 
 abbrev asked : tie.Start → CandidatesAsked
-asked s = record { n = s .args .n; shortest = record { m = s .args .m }; forbidden = now (s .args .forbidden); start = s .args .start; stop = s .args .stop; room = length (now (s .args .rows)) }
+asked s = record { n = s .args .n; shortest = record { m = s .args .m; closed = s .args .closed }; forbidden = now (s .args .forbidden); start = s .args .start; stop = s .args .stop; room = length (now (s .args .rows)) }
 
 returns : tie.Need-returns
 returns c =

@@ -9,7 +9,7 @@ use Rattle.changeforest_c.proofs.segments.changeforest_seeded_segments.
 use Rattle.changeforest_c.proofs.segments.changeforest_seeded_segments.Tie as tie
 
 abbrev asked : tie.Start → SeededAsked
-asked s = seededAsked (record { cells = now (s .args .cells); n = s .args .n; d = s .args .d }) (record { m = s .args .m }) (now (s .args .forbidden)) (now (s .args .layers)) (record { sums = now (s .args .sums); rows = now (s .args .rows); gains = now (s .args .gains) })
+asked s = seededAsked (record { cells = now (s .args .cells); n = s .args .n; d = s .args .d }) (record { m = s .args .m; closed = s .args .closed }) (now (s .args .forbidden)) (now (s .args .layers)) (record { sums = now (s .args .sums); rows = now (s .args .rows); gains = now (s .args .gains) })
 
 returns : tie.Need-returns
 returns c =

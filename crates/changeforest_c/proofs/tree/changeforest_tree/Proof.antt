@@ -1,6 +1,7 @@
 -- `changeforest_tree` meets its contract: a walk of its MIR, by hand: how many nodes are lent on, one call of the entry point, and one that tells what was
 -- grown. Assumes nothing.
 use mathlib.Core.Path.{_≡_, refl}
+use mathlib.Core.Bool.{Bool}
 use mathlib.Core.List.{[], _∷_}
 use Prim.Native.Nat.{ℕ, _≤_}
 use lib.ListN.{length}
@@ -29,7 +30,7 @@ use Rattle.control.proofs.Shortest as shortest′
 use Rattle.control.proofs.Shortest.Laws as shortest″
 use Rattle.control.proofs.Settings as settings′
 use Rattle.control.proofs.Settings.Laws as settings″
-use Rattle.lent.proofs.Data.{Datum, Fit, word, float, of-struct}
+use Rattle.lent.proofs.Data.{Datum, Fit, word, float, truth, of-struct}
 use Rattle.lent.proofs.Held.{Deal, Args, unique, shared, plain, handed, anew}
 use Rattle.lent.proofs.Walk.{_▸_, builds, copies, points, reborrows, returning}
 use Rattle.lent.proofs.Front.{frontOf, front-good, lends-front, front-back}
@@ -63,8 +64,8 @@ number = record { row = u32; mach = λ n. vint w32 n; tells = uint-tells w32; st
 abbrev shortest : Datum
 shortest = of-struct shortest′.the-type shortest″.the-laws shortest″.the-plain shortest″.the-copy
 
-shortest-fits : (m : ℕ) → Fit word m → Fit shortest (record { m = m })
-shortest-fits m is = LL.owes shortest′.the-type shortest″.the-laws (record { m = m }) (is, tt)
+shortest-fits : (m : ℕ) (closed : Bool) → Fit word m → Fit truth closed → Fit shortest (record { m = m; closed = closed })
+shortest-fits m closed a b = LL.owes shortest′.the-type shortest″.the-laws (record { m = m; closed = closed }) (a, (b, tt))
 
 settings-fit : (s : Settings) → Fit shortest (s .shortest) → Fit float (s .threshold) → Fit settings s
 settings-fit s a b = LL.owes settings′.the-type settings″.the-laws s (a, (b, tt))
@@ -87,14 +88,14 @@ rooming = record {
   says = λ (nodes, (counts, _)) r _. (r ≡ countedRoom nodes counts) × (r ≤ nodes);
 }
 
--- ---- changeforest_tree: what the entry point is handed, with m and the threshold apart, and counts
+-- ---- changeforest_tree: what the entry point is handed, with m, the closed end and the threshold apart, and counts
 abbrev exporting : Deal
 exporting = record {
-  ks = shared f64 ∷ plain word ∷ plain word ∷ plain word ∷ plain float ∷ shared usize ∷ shared f64 ∷ unique f64 ∷ unique usize ∷ unique f64 ∷ unique (node .row) ∷ unique usize ∷ unique usize ∷ [];
+  ks = shared f64 ∷ plain word ∷ plain word ∷ plain word ∷ plain truth ∷ plain float ∷ shared usize ∷ shared f64 ∷ unique f64 ∷ unique usize ∷ unique f64 ∷ unique (node .row) ∷ unique usize ∷ unique usize ∷ [];
   res = number;
   asks = λ _. Unit {0};
-  says = λ (cells, (n, (d, (m, (threshold, (forbidden, (layers, (sums, (rows, (gains, (nodes, (cuts, (counts, _))))))))))))) r (_, (_, (_, (_, (_, (_, (_, (sums′, (rows′, (gains′, (nodes′, (cuts′, (counts′, _))))))))))))).
-      TreeStored (record { cells = now (cells .x); n = n; d = d }) (record { shortest = record { m = m }; threshold = threshold; forbidden = now (forbidden .x); layers = now (layers .x) }) r
+  says = λ (cells, (n, (d, (m, (closed, (threshold, (forbidden, (layers, (sums, (rows, (gains, (nodes, (cuts, (counts, _)))))))))))))) r (_, (_, (_, (_, (_, (_, (_, (_, (sums′, (rows′, (gains′, (nodes′, (cuts′, (counts′, _)))))))))))))).
+      TreeStored (record { cells = now (cells .x); n = n; d = d }) (record { shortest = record { m = m; closed = closed }; threshold = threshold; forbidden = now (forbidden .x); layers = now (layers .x) }) r
       (record { sums = sums .list; rows = rows .list; gains = gains .list; nodes = nodes .list; cuts = cuts .list }) (record { sums = sums′; rows = rows′; gains = gains′; nodes = nodes′; cuts = cuts′ })
       (counts .list) counts′;
 }
@@ -102,10 +103,10 @@ exporting = record {
 module _ {M : Type 1} (𝓤 : URA M) (H : Heap 𝓤) (A : Atoms 𝓤) (W : Given 𝓤 H A) (𝓣 : Tables 𝓤 H) (known-room : Known 𝓤 H A W rooming (𝓣 .C #room)) (known-entry : Known 𝓤 H A W answering (𝓣 .C #entry)) (known-tell : Known 𝓤 H A W telling (𝓣 .C #tell)) where
   walk : (xs : Args (exporting .ks)) → Walked 𝓤 H A W exporting (𝓣 .C) (𝓣 .Λ) code.function refl xs
   walk xs good asked pl =
-      let (cells, (n, (d, (m, (threshold, (forbidden, (layers, (sums, (rows, (gains, (nodes, (cuts, (counts, _))))))))))))) = xs in
-      let (X, (n-fits, (d-fits, (m-fits, (t-fits, (F, (L, (S, (R, (G, (N, (K, (C, _))))))))))))) = good in
-      let s : Settings = record { shortest = record { m = m }; threshold = threshold } in
-      let short-fits = shortest-fits m m-fits in
+      let (cells, (n, (d, (m, (closed, (threshold, (forbidden, (layers, (sums, (rows, (gains, (nodes, (cuts, (counts, _)))))))))))))) = xs in
+      let (X, (n-fits, (d-fits, (m-fits, (c-fits, (t-fits, (F, (L, (S, (R, (G, (N, (K, (C, _)))))))))))))) = good in
+      let s : Settings = record { shortest = record { m = m; closed = closed }; threshold = threshold } in
+      let short-fits = shortest-fits m closed m-fits c-fits in
       let s-fits = settings-fit s short-fits t-fits in
       let before : Slices = record { sums = sums .list; rows = rows .list; gains = gains .list; nodes = nodes .list; cuts = cuts .list } in
       builds ! refl refl (shortest .lawful 𝓤 H A W .typed _ _ short-fits .0) ▸ builds ! refl refl (settings .lawful 𝓤 H A W .typed s _ s-fits .0) ▸ copies ! refl refl ▸ copies ! refl refl ▸
@@ -121,7 +122,7 @@ module _ {M : Type 1} (𝓤 : URA M) (H : Heap 𝓤) (A : Atoms 𝓤) (W : Given
       front-back ! (node .row) nodes 12 room nodes′ (N .0) refl (λ same-front.
       reborrows ! refl refl refl refl refl ▸
       calls 𝓤 H A W telling (g, (counts, tt)) (grew .is, (C, tt)) tt ! 16 refl (fmOf 𝓤 H (W .laws) 𝓣) (known-tell (g, (counts, tt))) refl refl refl (λ r us told.
-      returning ! refl refl (finishes 𝓤 H A W exporting xs r (tt, (tt, (tt, (tt, (tt, (tt, (tt, (sums′, (rows′, (gains′, (whole before room after .nodes, (cuts′, (us .1 .0, tt))))))))))))) (told .is) (a, (b, (c, (same-len room (nodes .list) nodes′ same-front, (e, (told .long .0, tt))))))
+      returning ! refl refl (finishes 𝓤 H A W exporting xs r (tt, (tt, (tt, (tt, (tt, (tt, (tt, (tt, (sums′, (rows′, (gains′, (whole before room after .nodes, (cuts′, (us .1 .0, tt)))))))))))))) (told .is) (a, (b, (c, (same-len room (nodes .list) nodes′ same-front, (e, (told .long .0, tt))))))
       (stored _ _ before (counts .list) room (rw (N .0, C .0) (roomed .said .0)) few g after (us .1 .0) r (grew .said) (told .said))))))))
 
   changeforest-tree-meets : (mem : Memory → SProp 𝓤) (run : Routine → Fun 𝓤) → Meets 𝓤 H A f.signature (WpFn 𝓤 H (𝓣 .C) (𝓣 .Λ) code.function) (f.spec 𝓤 H A mem run)

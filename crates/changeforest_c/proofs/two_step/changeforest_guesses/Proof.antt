@@ -9,7 +9,7 @@ use Rattle.changeforest_c.proofs.two_step.changeforest_guesses.Statemen
 use Rattle.changeforest_c.proofs.two_step.changeforest_guesses.Tie as tie
 
 abbrev asked : tie.Start → GuessesAsked
-asked s = let a = s .args in record { n = a .n; shortest = record { m = a .m }; forbidden = listGiven (a .given) (now (a .forbidden)); start = a .start; stop = a .stop }
+asked s = let a = s .args in record { n = a .n; shortest = record { m = a .m; closed = a .closed }; forbidden = listGiven (a .given) (now (a .forbidden)); start = a .start; stop = a .stop }
 
 returns : tie.Need-returns
 returns c =

@@ -8,7 +8,7 @@ use Rattle.changeforest_c.proofs.two_step.changeforest_pick.Statement.{
 use Rattle.changeforest_c.proofs.two_step.changeforest_pick.Tie as tie
 
 abbrev asked : tie.Start → PickAsked
-asked s = record { n = s .args .n; shortest = record { m = s .args .m }; forbidden = now (s .args .forbidden); start = s .args .start; stop = s .args .stop; guess = s .args .guess; curve = now (s .args .curve) }
+asked s = record { n = s .args .n; shortest = record { m = s .args .m; closed = s .args .closed }; forbidden = now (s .args .forbidden); start = s .args .start; stop = s .args .stop; guess = s .args .guess; curve = now (s .args .curve) }
 
 returns : tie.Need-returns
 returns c =

@@ -7,6 +7,7 @@ use borrow.Author.Tests.{not-true, not-false}
 use denote.Ref.{now}
 use Rattle.scope.specs.Lists.{isEmpty}
 use Rattle.scope.specs.Candidates.{rangeSize}
+use Rattle.scope.proofs.Candidates.{one-at-most}
 use Rattle.optimizer.proofs.Walk.{walked, none-yet, none-walked, barred-some, barred-all}
 use Rattle.control.specs.Settings.{shortestOf}
 use borrow.Author.Needs.{needs}
@@ -24,7 +25,7 @@ loop-holds c = (omega arith, none-yet _ _)
 
 range-row-requires : tie.Need-range-row-requires Inv-loop μ-loop
 unfolding rangeSize
-range-row-requires c κs = (omega arith, omega arith, omega arith)
+range-row-requires c κs = (omega arith, omega arith, omega (arith, one-at-most (shortestOf (c .before .before .before .before .args .shortest))))
 
 returns : tie.Need-returns Inv-loop μ-loop
 returns c =

@@ -3,6 +3,7 @@ use mathlib.Core.Path.{_≡_, sym, _∙_}
 use mathlib.Core.Bool.{true, false}
 use mathlib.Core.List.{List, [], _∷_}
 use Prim.Native.Nat.{_≤_}
+use native.Mathlib.Omega.{arith}
 use borrow.Author.Tests.{lt-ltb, le-ltb}
 use denote.Ref.{now}
 use lib.ListN.{drop}
@@ -23,10 +24,11 @@ abbrev first : CandidatesAsked → List Test
 first a = no1-rows (a .n) ∷ no2 (a .shortest) ∷ no5 (a .forbidden) ∷ []
 
 -- n and m are within their sizes
-sizes : (c : tie.Else1) → (c .before .before .before .args .n ≤ 4096) × (c .before .before .before .args .shortest .m ≤ 4096)
+sizes : (c : tie.Else1) → (c .before .before .before .args .n ≤ 4096) × (1 ≤ c .before .before .before .args .shortest .m) × (c .before .before .before .args .shortest .m ≤ 4096)
 sizes c =
     let p = passed (first (asked (c .before .before .before))) tt (sym (c .before .rows-refusal .ensures) ∙ c .if1 .left) in
-    (not-outside 4096 (c .before .before .before .args .n) (p .0) .1, not-outside 4096 (c .before .before .before .args .shortest .m) (p .1 .0) .1)
+    let m = not-outside 4096 (c .before .before .before .args .shortest .m) (p .1 .0) in
+    (not-outside 4096 (c .before .before .before .args .n) (p .0) .1, m .0, m .1)
 
 -- past the first tests
 left : (c : tie.Else1) → firstOf (candidatesTests (asked (c .before .before .before))) ≡ firstOf (drop 3 (candidatesTests (asked (c .before .before .before))))
@@ -40,7 +42,7 @@ returns c =
     no .ensures ∙ stops (first a) (drop 3 (candidatesTests a)) (λ z. c .if1 .taken (no .ensures ∙ z))
 
 range-size-requires : tie.Need-range-size-requires
-range-size-requires c κs = sizes c .1
+range-size-requires c κs = let w = sizes c in (w .2, omega arith)
 
 returns-2 : tie.Need-returns-2
 unfolding candidatesRefusal
@@ -49,7 +51,7 @@ returns-2 c =
     answers (drop 3 (candidatesTests a)) (true ∷ []) (lt-ltb (a .room) (rangeSize (a .shortest) (a .start) (a .stop)) (rw (← c .before .range-size .ensures) (c .if2 .taken)), tt) ∙ sym (left (c .before .before))
 
 segment-refusal-requires : tie.Need-segment-refusal-requires
-segment-refusal-requires c κs = sizes (c .before .before)
+segment-refusal-requires c κs = let w = sizes (c .before .before) in (w .0, w .2)
 
 returns-3 : tie.Need-returns-3
 unfolding candidatesRefusal

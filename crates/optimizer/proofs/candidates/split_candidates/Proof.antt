@@ -6,6 +6,7 @@ use native.Mathlib.Omega.{arith}
 use borrow.Author.Tests.{not-true, not-false}
 use denote.Ref.{now}
 use Rattle.scope.specs.Candidates.{rangeSize}
+use Rattle.scope.proofs.Candidates.{one-at-most}
 use Rattle.optimizer.proofs.Walk.{State, begins, passed, stored, walked-all}
 use Rattle.control.specs.Settings.{shortestOf}
 use borrow.Author.Needs.{needs}
@@ -23,7 +24,7 @@ loop-holds c = begins _ _ _ _
 
 range-row-requires : tie.Need-range-row-requires Inv-loop μ-loop
 unfolding rangeSize
-range-row-requires c κs = (omega arith, omega arith, omega arith)
+range-row-requires c κs = (omega arith, omega arith, omega (arith, one-at-most (shortestOf (c .before .before .before .before .before .args .shortest))))
 
 loop-again : tie.Need-loop-again Inv-loop μ-loop
 loop-again c =
