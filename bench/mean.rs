@@ -6,7 +6,7 @@ use common::{cells, timed};
 
 extern "C" {
     fn changeforest_find_best_split(
-        cells: *const f64, cells_len: usize, n: usize, d: usize, m: usize,
+        cells: *const f64, cells_len: usize, n: usize, d: usize, m: usize, closed: bool,
         forbidden: *const usize, forbidden_len: usize, start: usize, stop: usize,
         sums: *mut f64, sums_len: usize, split: *mut usize, gain: *mut f64,
     ) -> u32;
@@ -54,7 +54,7 @@ fn proved(cells: &[f64], sums: &mut [f64]) -> (usize, f64) {
     let none: [usize; 0] = [];
     let no = unsafe {
         changeforest_find_best_split(
-            cells.as_ptr(), cells.len(), N, D, M, none.as_ptr(), 0, 0, N,
+            cells.as_ptr(), cells.len(), N, D, M, false, none.as_ptr(), 0, 0, N,
             sums.as_mut_ptr(), sums.len(), &mut split, &mut gain,
         )
     };

@@ -3,7 +3,7 @@
 
 #include "changeforest.h"
 
-/* Room for the nodes: the greater of 1 and 2*floor((ROWS-1)/SHORTEST)-1. A layer of 0.5 has three segments. */
+/* Room for the nodes: the greater of 1 and 2*floor((ROWS-1)/SHORTEST)-1, as the end is not closed. A layer of 0.5 has three segments. */
 enum { ROWS = 12, COLUMNS = 2, SHORTEST = 2, NODES = 2 * ((ROWS - 1) / SHORTEST) - 1, SEGMENTS = 3, RECORDS = SEGMENTS + NODES };
 
 /* The library's nodes are laid out as this compiler lays them out. */
@@ -28,7 +28,7 @@ static struct changeforest_node nodes[NODES];
 
 int main(void)
 {
-    uint32_t no = changeforest_tree(cells, ROWS * COLUMNS, ROWS, COLUMNS, SHORTEST, 10.0, forbidden, 2, layers, 1, sums,
+    uint32_t no = changeforest_tree(cells, ROWS * COLUMNS, ROWS, COLUMNS, SHORTEST, false, 10.0, forbidden, 2, layers, 1, sums,
                                     (ROWS + 1) * COLUMNS, rows, 3 * RECORDS, gains, RECORDS, nodes, NODES, cuts, (NODES - 1) / 2,
                                     counts, 3);
     if (no != 0) {

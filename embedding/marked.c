@@ -1,6 +1,6 @@
-/* The marked cases of document 01 and each refusal, through the C functions: one line for each call, held to marked.stdout. Arrays that
-   are written are mostly lent longer than their room, some exactly as long, and shorter where 7 is to be given; more stands behind each.
-   `touched` is printed where an entry that was not told, lent or not, is not as it was. */
+/* The marked cases of document 01, some of them with a closed end, and each refusal, through the C functions: one line for each call,
+   held to marked.stdout. Arrays that are written are mostly lent longer than their room, some exactly as long, and shorter where 7 is to
+   be given; more stands behind each. `touched` is printed where an entry that was not told, lent or not, is not as it was. */
 #include <inttypes.h>
 #include <stdio.h>
 #include <string.h>
@@ -58,11 +58,12 @@ static void fill_floats(double *values)
         values[i] = 7.5;
 }
 
-static void candidates(const char *name, size_t n, size_t m, const size_t *forbidden, size_t forbidden_len, size_t stop, size_t room)
+static void candidates(const char *name, size_t n, size_t m, bool closed, const size_t *forbidden, size_t forbidden_len, size_t stop,
+                       size_t room)
 {
     size_t rows[ROOM], count = 0;
     fill_rows(rows);
-    uint32_t no = changeforest_split_candidates(n, m, forbidden, forbidden_len, 0, stop, rows, room, &count);
+    uint32_t no = changeforest_split_candidates(n, m, closed, forbidden, forbidden_len, 0, stop, rows, room, &count);
     printf("%s", name);
     rows_told(rows, count);
     end(no);
@@ -78,25 +79,25 @@ static void gain(const char *name, const double *cells, size_t n, size_t start, 
     end(no);
 }
 
-static void search(const char *name, const double *cells, size_t n, size_t m, size_t stop)
+static void search(const char *name, const double *cells, size_t n, size_t m, bool closed, size_t stop)
 {
     double sums[ROOM], found = 7.5;
     size_t split = 77;
     fill_floats(sums);
-    uint32_t no = changeforest_find_best_split(cells, n, n, 1, m, none, 0, 0, stop, sums, n + 1 + SPARE, &split, &found);
+    uint32_t no = changeforest_find_best_split(cells, n, n, 1, m, closed, none, 0, 0, stop, sums, n + 1 + SPARE, &split, &found);
     printf("%s %zu %016" PRIx64, name, split, bits(found));
     end(no);
 }
 
-static void segments(const char *name, size_t n, const double *layers, size_t layers_len)
+static void segments(const char *name, size_t n, bool closed, const double *layers, size_t layers_len)
 {
     double cells[20] = {0}, sums[ROOM], gains[ROOM];
     size_t rows[ROOM], count = 0;
     fill_floats(sums);
     fill_floats(gains);
     fill_rows(rows);
-    uint32_t no = changeforest_seeded_segments(cells, n, n, 1, 1, none, 0, layers, layers_len, sums, n + 1 + SPARE, rows, 30, gains, 10,
-                                               &count);
+    uint32_t no = changeforest_seeded_segments(cells, n, n, 1, 1, closed, none, 0, layers, layers_len, sums, n + 1 + SPARE, rows, 30,
+                                               gains, 10, &count);
     printf("%s %zu:", name, count);
     rows_told(rows, 3 * count);
     floats_told(gains, count);
@@ -104,8 +105,8 @@ static void segments(const char *name, size_t n, const double *layers, size_t la
 }
 
 /* B = 13 for the longest run here, T = 3 at most. */
-static void tree(const char *name, const double *cells, size_t n, double threshold, const double *layers, size_t layers_len, size_t room,
-                 size_t counts_len)
+static void tree(const char *name, const double *cells, size_t n, bool closed, double threshold, const double *layers,
+                 size_t layers_len, size_t room, size_t counts_len)
 {
     double sums[ROOM], gains[ROOM];
     size_t rows[2 * ROOM], cuts[ROOM], counts[4] = {77, 77, 77, 77};
@@ -115,8 +116,8 @@ static void tree(const char *name, const double *cells, size_t n, double thresho
     fill_rows(rows);
     fill_rows(rows + ROOM);
     fill_rows(cuts);
-    uint32_t no = changeforest_tree(cells, n, n, 1, 1, threshold, none, 0, layers, layers_len, sums, n + 1 + SPARE, rows, 2 * ROOM, gains,
-                                    ROOM, nodes, room, cuts, ROOM, counts, counts_len);
+    uint32_t no = changeforest_tree(cells, n, n, 1, 1, closed, threshold, none, 0, layers, layers_len, sums, n + 1 + SPARE, rows, 2 * ROOM,
+                                    gains, ROOM, nodes, room, cuts, ROOM, counts, counts_len);
     size_t told = no == 0 ? counts[0] : 0;
     printf("%s %zu %zu %zu %zu nodes", name, counts[0], counts[1], counts[2], counts[3]);
     for (size_t i = 0; i < told; i++) {
@@ -174,31 +175,31 @@ static void curve(const char *name, const double *l0, size_t l0_len, const doubl
     end(no);
 }
 
-static void pick(const char *name, const double *values, size_t len, size_t guess)
+static void pick(const char *name, const double *values, size_t len, bool closed, size_t guess)
 {
     size_t split = 77;
     double found = 7.5;
-    uint32_t no = changeforest_pick(values, len, len, 1, none, 0, 0, len, guess, &split, &found);
+    uint32_t no = changeforest_pick(values, len, len, 1, closed, none, 0, 0, len, guess, &split, &found);
     printf("%s %zu %016" PRIx64, name, split, bits(found));
     end(no);
 }
 
-static void guesses(const char *name, size_t m, bool given, const size_t *forbidden, size_t forbidden_len, size_t stop)
+static void guesses(const char *name, size_t m, bool closed, bool given, const size_t *forbidden, size_t forbidden_len, size_t stop)
 {
     size_t first = 77, second = 77, third = 77, count = 77;
-    uint32_t no = changeforest_guesses(20, m, given, forbidden, forbidden_len, 0, stop, &first, &second, &third, &count);
+    uint32_t no = changeforest_guesses(20, m, closed, given, forbidden, forbidden_len, 0, stop, &first, &second, &third, &count);
     printf("%s %zu: %zu %zu %zu", name, count, first, second, third);
     end(no);
 }
 
-static void test(const char *name, size_t k, const size_t *permutations, size_t len, double alpha)
+static void test(const char *name, size_t k, size_t length, bool closed, const size_t *permutations, size_t len, double alpha)
 {
     static const double deltas[3] = {1, 0, -1}, empty[1];
     size_t counter = 77;
     double p_value = 7.5;
     bool significant = true;
-    uint32_t no = changeforest_permutation_test(deltas, 3, empty, 0, empty, 0, 0, 0, 0, k, permutations, len, 3, 1, alpha, 1, &counter,
-                                                &p_value, &significant);
+    uint32_t no = changeforest_permutation_test(deltas, length, empty, 0, empty, 0, 0, 0, 0, k, permutations, len, 3, 1, closed, alpha, 1,
+                                                &counter, &p_value, &significant);
     printf("%s %zu %016" PRIx64 " %d", name, counter, bits(p_value), significant);
     end(no);
 }
@@ -219,47 +220,67 @@ int main(void)
     static const double m7[] = {0, 0, 0, 0, 8, 8, 8, 8}, m8[5];
     static const double half[] = {0.5}, quarter[] = {0.25}, one[] = {1.0};
     static const double l0[] = {3, 1, 0}, l1[] = {1, 1, 2}, values[] = {9, 1, 4, 4, 0};
+    static const double last[] = {0, 0, 0, 8}, rising[] = {0, 0, 1, 2};
+    static const size_t both[] = {0, 1, 1, 0, 0, 1};
 
-    candidates("M1", 10, 3, none, 0, 10, 4 + SPARE);
-    candidates("M2", 10, 5, none, 0, 10, 0);
-    candidates("M3", 9, 4, none, 0, 9, 1 + SPARE);
-    candidates("M4", 10, 3, m4, LEN(m4), 10, 4 + SPARE);
-    candidates("M5", 10, 3, m5, LEN(m5), 10, 4 + SPARE);
+    candidates("M1", 10, 3, false, none, 0, 10, 4 + SPARE);
+    candidates("M2", 10, 5, false, none, 0, 10, 0);
+    candidates("M3", 9, 4, false, none, 0, 9, 1 + SPARE);
+    candidates("M4", 10, 3, false, m4, LEN(m4), 10, 4 + SPARE);
+    candidates("M5", 10, 3, false, m5, LEN(m5), 10, 4 + SPARE);
     gain("M6 at 2", m6, LEN(m6), 0, 5, 2);
     gain("M6 at 3", m6, LEN(m6), 0, 5, 3);
-    search("M6", m6, LEN(m6), 1, 5);
-    tree("M7", m7, LEN(m7), 10, layerless, 0, 13, 3);
-    tree("M8", m8, LEN(m8), -1, layerless, 0, 7, 4);
-    tree("M7 with a layer", m7, LEN(m7), 10, half, 1, 13, 3);
+    search("M6", m6, LEN(m6), 1, false, 5);
+    tree("M7", m7, LEN(m7), false, 10, layerless, 0, 13, 3);
+    tree("M8", m8, LEN(m8), false, -1, layerless, 0, 7, 4);
+    tree("M7 with a layer", m7, LEN(m7), false, 10, half, 1, 13, 3);
     predict("M9", m9, LEN(m9), 4, 2);
     order("M9 ordering", m9, LEN(m9), 16);
-    test("M10", 1, m10, LEN(m10), 0.05);
-    segments("M11", 20, half, 1);
-    segments("M11 quarter", 20, quarter, 1);
+    test("M10", 1, 3, false, m10, LEN(m10), 0.05);
+    segments("M11", 20, false, half, 1);
+    segments("M11 quarter", 20, false, quarter, 1);
     length("relative", 0.07, 100);
     curve("curve", l0, 3, l1, 3);
-    pick("pick", values, LEN(values), 3);
-    guesses("between", 1, false, odd, 1, 20);
-    guesses("listed", 1, true, none, 0, 20);
-    guesses("one", 2, true, none, 0, 5);
+    pick("pick", values, LEN(values), false, 3);
+    guesses("between", 1, false, false, odd, 1, 20);
+    guesses("listed", 1, false, true, none, 0, 20);
+    guesses("one", 2, false, true, none, 0, 5);
     printf("f32 %016" PRIx64 "\n", bits(changeforest_nearest_f32(0.1)));
 
-    candidates("no rows", 0, 3, none, 0, 10, 4);
+    candidates("M1 closed", 10, 3, true, none, 0, 10, 5 + SPARE);
+    candidates("M2 closed", 10, 5, true, none, 0, 10, 1);
+    search("last closed", last, LEN(last), 1, true, 4);
+    tree("M8 closed", m8, LEN(m8), true, -1, layerless, 0, 9, 4);
+    segments("two rows closed", 4, true, half, 1);
+    pick("pick closed", rising, LEN(rising), true, 3);
+    guesses("two rows between closed", 1, true, false, odd, 1, 2);
+    guesses("two rows listed closed", 1, true, true, none, 0, 2);
+    test("two values closed", 1, 2, true, both, LEN(both), 0.05);
+
+    candidates("no rows", 0, 3, false, none, 0, 10, 4);
     length("half", 0.5, 100);
-    test("alpha", 1, m10, LEN(m10), 1);
-    search("infinite", infinite, LEN(infinite), 1, 4);
-    candidates("odd list", 10, 3, odd, LEN(odd), 10, 4);
-    segments("layer of 1", 20, one, 1);
-    tree("NaN threshold", m8, LEN(m8), infinite[1] - infinite[1], layerless, 0, 7, 2);
-    tree("short nodes", m8, LEN(m8), -1, layerless, 0, 6, 3);
-    tree("short counts", m8, LEN(m8), -1, layerless, 0, 7, 2);
-    tree("no counts", m8, LEN(m8), -1, layerless, 0, 7, 0);
-    candidates("short", 10, 3, none, 0, 10, 3);
+    test("alpha", 1, 3, false, m10, LEN(m10), 1);
+    search("infinite", infinite, LEN(infinite), 1, false, 4);
+    candidates("odd list", 10, 3, false, odd, LEN(odd), 10, 4);
+    segments("layer of 1", 20, false, one, 1);
+    tree("NaN threshold", m8, LEN(m8), false, infinite[1] - infinite[1], layerless, 0, 7, 2);
+    tree("short nodes", m8, LEN(m8), false, -1, layerless, 0, 6, 3);
+    tree("short counts", m8, LEN(m8), false, -1, layerless, 0, 7, 2);
+    tree("no counts", m8, LEN(m8), false, -1, layerless, 0, 7, 0);
+    candidates("short", 10, 3, false, none, 0, 10, 3);
     order("short ordering", m9, LEN(m9), 15);
     gain("split past stop", m6, LEN(m6), 0, 3, 4);
-    test("no curve", 0, m10, LEN(m10), 0.05);
-    test("twice", 1, twice, LEN(twice), 0.05);
+    test("no curve", 0, 3, false, m10, LEN(m10), 0.05);
+    test("twice", 1, 3, false, twice, LEN(twice), 0.05);
     curve("lengths differ", l0, 3, l1, 2);
-    pick("no candidate", values, LEN(values), 0);
+    pick("no candidate", values, LEN(values), false, 0);
+
+    candidates("nine rows closed", 9, 5, true, none, 0, 9, 0);
+    candidates("short closed", 10, 5, true, none, 0, 10, 0);
+    tree("short nodes closed", m8, LEN(m8), true, -1, layerless, 0, 8, 3);
+    search("last", last, LEN(last), 2, false, 4);
+    pick("no candidate unless closed", rising, LEN(rising), false, 3);
+    guesses("two rows between", 1, false, false, odd, 1, 2);
+    test("two values", 1, 2, false, both, LEN(both), 0.05);
     return 0;
 }

@@ -12,13 +12,17 @@
      overlap each other;
    - the stack has room: 16 KiB; for changeforest_permutation_test 80 KiB more where the first curve is longer than 4,096 (it is then
      refused); for changeforest_tree 1 KiB more for each level of the tree, of which there are at most the greater of 1 and
-     floor((n-1)/m). So 5 MiB are always enough, and a thread may have less.
+     floor((n-1)/m), or floor(n/m) where closed is true. So 5 MiB are always enough, and a thread may have less.
    Every other value of the arguments is allowed, and is answered or refused.
 
    A call allocates nothing, keeps no pointer, and has no state: calls on memory of their own may run at the same time.
 
    Sizes: n 1 to 4,096 rows (1,024 for ordering and predict), d 1 to 64 columns, m 1 to 4,096. A matrix is n*d cells, row after row.
    forbidden is a list of pairs a, b: the rows a < x <= b are barred. A segment [start, stop) has the rows from start to stop-1.
+
+   closed is a setting, the closed end: whether the right part of a split may have exactly m rows. The candidates of [start, stop) are
+   the rows x that are not barred with start+m <= x and x+m < stop, or x+m <= stop where closed is true. Where it is false all is as in
+   the original changeforest, which has no such setting.
 
    Refusals; of those that apply to a call the lowest number is given:
     1  n or d outside its size, or cells_len not n*d
@@ -29,7 +33,7 @@
     6  more than 64 layers, or a layer value not in [1/4096, 1)
     7  an array that is written is shorter than its room
     8  start > stop or stop > n; a split below start or above stop; for predict also start = stop
-    9  2*m >= stop-start; for permutations 2*m >= L
+    9  2*m >= stop-start, or where closed is true 2*m > stop-start; for permutations likewise with L for stop-start
    10  every row of the candidate range is barred
    11  no list of p permutations of 0..L-1, or p above 999
    12  curves: their number, their lengths, or a guess that is no candidate */
@@ -51,10 +55,10 @@ uint32_t changeforest_minimal_segment_length(double relative, size_t n, size_t *
 /* The float nearest to x, ties to even: an overflow is infinite, a NaN stays NaN, -0 stays -0. Refuses nothing. */
 float changeforest_nearest_f32(double x);
 
-/* The candidates of [start, stop), ascending, into rows, and how many, into count: start+m <= x < stop-m, except barred rows.
-   Room: rows stop-start-2*m, or 0 where that is negative. Refusals: 1 (n alone), 2, 5, 7, 8, 9, 10. */
-uint32_t changeforest_split_candidates(size_t n, size_t m, const size_t *forbidden, size_t forbidden_len, size_t start, size_t stop,
-                                       size_t *rows, size_t rows_len, size_t *count);
+/* The candidates of [start, stop), ascending, into rows, and how many, into count. Room: rows stop-start-2*m, or stop-start-2*m+1 where
+   closed is true, or 0 where that is negative. Refusals: 1 (n alone), 2, 5, 7, 8, 9, 10. */
+uint32_t changeforest_split_candidates(size_t n, size_t m, bool closed, const size_t *forbidden, size_t forbidden_len, size_t start,
+                                       size_t stop, size_t *rows, size_t rows_len, size_t *count);
 
 /* The gain of cutting [start, stop) at split, into gain; 0 where split is start or stop. sums takes the matrix's prefix sums.
    Room: sums (n+1)*d. Refusals: 1, 4, 7, 8. */
@@ -63,17 +67,18 @@ uint32_t changeforest_gain(const double *cells, size_t cells_len, size_t n, size
 
 /* The first of the candidates with the greatest gain, into split, and that gain, into gain; 0 and minus infinity where all are NaN.
    sums takes the matrix's prefix sums. Room: sums (n+1)*d. Refusals: 1, 2, 4, 5, 7, 8, 9, 10. */
-uint32_t changeforest_find_best_split(const double *cells, size_t cells_len, size_t n, size_t d, size_t m, const size_t *forbidden,
-                                      size_t forbidden_len, size_t start, size_t stop, double *sums, size_t sums_len, size_t *split,
-                                      double *gain);
+uint32_t changeforest_find_best_split(const double *cells, size_t cells_len, size_t n, size_t d, size_t m, bool closed,
+                                      const size_t *forbidden, size_t forbidden_len, size_t start, size_t stop, double *sums,
+                                      size_t sums_len, size_t *split, double *gain);
 
 /* The records of the seeded segments of all layers, and how many, into count: start, stop and best split of each into rows, three
    entries a record, its gain into gains. A layer's value v gives 2*ceil(f32(1/v))-1 segments; one that a search would refuse leaves
    no record. sums takes the matrix's prefix sums. Room: sums (n+1)*d; with T the layers' segments summed, rows 3*T and gains T.
    Refusals: 1, 2, 4, 5, 6, 7. */
-uint32_t changeforest_seeded_segments(const double *cells, size_t cells_len, size_t n, size_t d, size_t m, const size_t *forbidden,
-                                      size_t forbidden_len, const double *layers, size_t layers_len, double *sums, size_t sums_len,
-                                      size_t *rows, size_t rows_len, double *gains, size_t gains_len, size_t *count);
+uint32_t changeforest_seeded_segments(const double *cells, size_t cells_len, size_t n, size_t d, size_t m, bool closed,
+                                      const size_t *forbidden, size_t forbidden_len, const double *layers, size_t layers_len,
+                                      double *sums, size_t sums_len, size_t *rows, size_t rows_len, double *gains, size_t gains_len,
+                                      size_t *count);
 
 /* The best split of [start, stop) and its gain. */
 struct changeforest_record {
@@ -98,10 +103,10 @@ struct changeforest_node {
 /* The tree of the run: a segment is cut at its choice's split where the choice's gain exceeds threshold, and then both parts are grown.
    The nodes in preorder into nodes, the rows that are cut from left to right into cuts; the records, those of the seeded segments first,
    into rows and gains as by changeforest_seeded_segments. counts takes how many nodes, records and cuts there are. sums takes the
-   matrix's prefix sums. Room: sums (n+1)*d; with T as there and B the greater of 1 and 2*floor((n-1)/m)-1, rows 3*(T+B), gains T+B,
-   nodes B, cuts (B-1)/2; counts 3.
+   matrix's prefix sums. Room: sums (n+1)*d; with T as there and B the greater of 1 and 2*floor((n-1)/m)-1, or 2*floor(n/m)-1 where
+   closed is true, rows 3*(T+B), gains T+B, nodes B, cuts (B-1)/2; counts 3.
    Refusals: 1, 2, 3 (threshold), 4, 5, 6, 7. */
-uint32_t changeforest_tree(const double *cells, size_t cells_len, size_t n, size_t d, size_t m, double threshold,
+uint32_t changeforest_tree(const double *cells, size_t cells_len, size_t n, size_t d, size_t m, bool closed, double threshold,
                            const size_t *forbidden, size_t forbidden_len, const double *layers, size_t layers_len, double *sums,
                            size_t sums_len, size_t *rows, size_t rows_len, double *gains, size_t gains_len,
                            struct changeforest_node *nodes, size_t nodes_len, size_t *cuts, size_t cuts_len, size_t *counts,
@@ -128,14 +133,14 @@ uint32_t changeforest_gain_from_likelihoods(const double *l0, size_t l0_len, con
 /* The first candidate of [start, stop) with the greatest value of curve, into split, and that value, into gain; guess and minus
    infinity where none is greater than that. curve has an entry for each row of the segment and may hold infinities and NaN.
    Refusals: 1 (n alone), 2, 5, 8, 9, 10, 12 (guess is no candidate, or curve_len not stop-start). */
-uint32_t changeforest_pick(const double *curve, size_t curve_len, size_t n, size_t m, const size_t *forbidden, size_t forbidden_len,
-                           size_t start, size_t stop, size_t guess, size_t *split, double *gain);
+uint32_t changeforest_pick(const double *curve, size_t curve_len, size_t n, size_t m, bool closed, const size_t *forbidden,
+                           size_t forbidden_len, size_t start, size_t stop, size_t guess, size_t *split, double *gain);
 
 /* One to three guesses for [start, stop), ascending, and how many, into count; of first, second and third those beyond the count are
-   unchanged. Where given is false forbidden is not looked at; an empty list that is given is not the same as none.
-   Refusals: 1 (n alone), 2, 5, 8, 9, 10. */
-uint32_t changeforest_guesses(size_t n, size_t m, bool given, const size_t *forbidden, size_t forbidden_len, size_t start, size_t stop,
-                              size_t *first, size_t *second, size_t *third, size_t *count);
+   unchanged. Where given is false forbidden is not looked at; an empty list that is given is not the same as none. Where closed is true
+   and given is false a segment of two rows gives its one candidate twice. Refusals: 1 (n alone), 2, 5, 8, 9, 10. */
+uint32_t changeforest_guesses(size_t n, size_t m, bool closed, bool given, const size_t *forbidden, size_t forbidden_len, size_t start,
+                              size_t stop, size_t *first, size_t *second, size_t *third, size_t *count);
 
 /* 1 and for each of p permutations with a sum that reaches maximum 1 more, into counter; counter/(p+1) into p_value; whether that is
    at most alpha into significant. Of three curves of deltas and their bases the first k are looked at, 1 to 3, and L is the first
@@ -143,8 +148,8 @@ uint32_t changeforest_guesses(size_t n, size_t m, bool given, const size_t *forb
    Refusals: 2, 3 (alpha), 4, 9, 11, 12 (k not 1 to 3, or the k lengths not all the same from 1 to 4,096). */
 uint32_t changeforest_permutation_test(const double *deltas0, size_t deltas0_len, const double *deltas1, size_t deltas1_len,
                                        const double *deltas2, size_t deltas2_len, double base0, double base1, double base2, size_t k,
-                                       const size_t *permutations, size_t permutations_len, size_t p, size_t m, double alpha,
-                                       double maximum, size_t *counter, double *p_value, bool *significant);
+                                       const size_t *permutations, size_t permutations_len, size_t p, size_t m, bool closed,
+                                       double alpha, double maximum, size_t *counter, double *p_value, bool *significant);
 
 #ifdef __cplusplus
 }

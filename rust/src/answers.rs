@@ -61,7 +61,7 @@ pub struct Tree {
     pub records: Vec<Record>,
 }
 
-/// One to three guesses, ascending.
+/// One to three guesses, ascending; with a closed end and no list a segment of two rows has its one candidate twice.
 #[derive(Clone, Copy, Debug, PartialEq, Eq)]
 pub struct Guesses {
     pub(crate) rows: [usize; 3],

@@ -16,6 +16,9 @@ pub struct Matrix<'a> {
 pub struct Settings<'a> {
     /// The least length of a part, 1 to 4,096. It must be given: the default, 0, is refused by 2.
     pub m: usize,
+    /// The closed end: whether the right part of a split may have exactly m rows, so that stop-m is a candidate. Off by default, and then
+    /// it has more, as in the original changeforest.
+    pub closed: bool,
     /// A segment is cut where its gain exceeds this. It must be given: the default, NaN, is refused by 3.
     pub threshold: f64,
     /// A share of permutations of at most this is significant; strictly between 0 and 1. It must be given: the default, NaN, is refused
@@ -30,7 +33,7 @@ pub struct Settings<'a> {
 
 impl Default for Settings<'_> {
     fn default() -> Self {
-        Settings { m: 0, threshold: f64::NAN, alpha: f64::NAN, forbidden: None, layers: &[] }
+        Settings { m: 0, closed: false, threshold: f64::NAN, alpha: f64::NAN, forbidden: None, layers: &[] }
     }
 }
 

@@ -34,10 +34,11 @@ fn segments(layers: &[f64]) -> usize {
     layers.iter().map(|v| 2 * ((1.0 / v) as f32).ceil() as usize - 1).sum()
 }
 
-/// The candidates of a segment of a run of `rows` rows, ascending. Reads m and forbidden.
+/// The candidates of a segment of a run of `rows` rows, ascending. Reads m, closed and forbidden.
 pub fn split_candidates(rows: usize, segment: Range<usize>, settings: &Settings) -> Result<Vec<usize>, Refusal> {
     let (segment, m) = (of_a_run(segment), settings.m);
-    let mut candidates = vec![0; segment.len().saturating_sub(m).saturating_sub(m)];
+    let length = segment.len() + usize::from(settings.closed);
+    let mut candidates = vec![0; length.saturating_sub(m).saturating_sub(m)];
     let count = lent::split_candidates(rows, segment, settings, &mut candidates)?;
     candidates.truncate(count);
     Ok(candidates)
@@ -48,7 +49,7 @@ pub fn gain(matrix: Matrix, segment: Range<usize>, split: usize) -> Result<f64, 
     lent::gain(matrix, segment, split, &mut sums_room(matrix))
 }
 
-/// The best split of the segment and its gain. Reads m and forbidden.
+/// The best split of the segment and its gain. Reads m, closed and forbidden.
 pub fn find_best_split(matrix: Matrix, segment: Range<usize>, settings: &Settings) -> Result<Split, Refusal> {
     lent::find_best_split(matrix, segment, settings, &mut sums_room(matrix))
 }
@@ -62,7 +63,7 @@ fn records(rows: &[usize], gains: &[f64], count: usize) -> Vec<Record> {
         .collect()
 }
 
-/// The records of the seeded segments of all layers. Reads m, forbidden and layers.
+/// The records of the seeded segments of all layers. Reads m, closed, forbidden and layers.
 pub fn seeded_segments(matrix: Matrix, settings: &Settings) -> Result<Vec<Record>, Refusal> {
     let room = segments(settings.layers);
     let (mut sums, mut rows, mut gains) = (sums_room(matrix), vec![0; 3 * room], vec![0.0; room]);
@@ -72,16 +73,17 @@ pub fn seeded_segments(matrix: Matrix, settings: &Settings) -> Result<Vec<Record
 }
 
 /// B, the most nodes that a tree can have.
-fn most_nodes(rows: usize, m: usize) -> usize {
-    if rows == 0 || rows > MOST_ROWS || m == 0 {
+fn most_nodes(rows: usize, settings: &Settings) -> usize {
+    if rows == 0 || rows > MOST_ROWS || settings.m == 0 {
         return 1;
     }
-    (2 * ((rows - 1) / m)).saturating_sub(1).max(1)
+    let parts = (rows - usize::from(!settings.closed)) / settings.m;
+    (2 * parts).saturating_sub(1).max(1)
 }
 
-/// The tree of the run. Reads m, threshold, forbidden and layers.
+/// The tree of the run. Reads m, closed, threshold, forbidden and layers.
 pub fn tree(matrix: Matrix, settings: &Settings) -> Result<Tree, Refusal> {
-    let most = most_nodes(matrix.rows, settings.m);
+    let most = most_nodes(matrix.rows, settings);
     let room = segments(settings.layers) + most;
     let (mut sums, mut rows, mut gains) = (sums_room(matrix), vec![0; 3 * room], vec![0.0; room]);
     let (mut nodes, mut cuts) = (vec![Node::default(); most], vec![0; (most - 1) / 2]);

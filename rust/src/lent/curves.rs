@@ -17,8 +17,8 @@ pub fn gain_from_likelihoods(l0: &[f64], l1: &[f64], curve: &mut [f64]) -> Resul
     unless(no, ())
 }
 
-/// How many permutations reach the observed maximum, counted from 1, their share, and whether it is significant. Reads m and alpha.
-/// Refusals: 2, 3 (alpha), 4, 9, 11, 12.
+/// How many permutations reach the observed maximum, counted from 1, their share, and whether it is significant. Reads m, closed
+/// and alpha. Refusals: 2, 3 (alpha), 4, 9, 11, 12.
 pub fn permutation_test(
     curves: Curves,
     permutations: Permutations,
@@ -43,6 +43,7 @@ pub fn permutation_test(
             permutations.entries.len(),
             permutations.count,
             settings.m,
+            settings.closed,
             settings.alpha,
             maximum,
             &mut found.counter,

@@ -4,7 +4,7 @@ use std::ops::Range;
 use crate::refusal::unless;
 use crate::{ffi, Matrix, Refusal, Settings, Split};
 
-/// The candidates of a segment of a run of `rows` rows, into `candidates`; how many. Reads m and forbidden.
+/// The candidates of a segment of a run of `rows` rows, into `candidates`; how many. Reads m, closed and forbidden.
 /// Refusals: 1 (rows alone), 2, 5, 7, 8, 9, 10.
 pub fn split_candidates(
     rows: usize,
@@ -18,6 +18,7 @@ pub fn split_candidates(
         ffi::changeforest_split_candidates(
             rows,
             settings.m,
+            settings.closed,
             barred.as_ptr(),
             barred.len(),
             segment.start,
@@ -50,7 +51,7 @@ pub fn gain(matrix: Matrix, segment: Range<usize>, split: usize, sums: &mut [f64
     unless(no, gain)
 }
 
-/// The best split of the segment and its gain; `sums` takes the prefix sums. Reads m and forbidden.
+/// The best split of the segment and its gain; `sums` takes the prefix sums. Reads m, closed and forbidden.
 /// Refusals: 1, 2, 4, 5, 7, 8, 9, 10.
 pub fn find_best_split(
     matrix: Matrix,
@@ -67,6 +68,7 @@ pub fn find_best_split(
             matrix.rows,
             matrix.columns,
             settings.m,
+            settings.closed,
             barred.as_ptr(),
             barred.len(),
             segment.start,

@@ -16,7 +16,8 @@ pub struct SegmentsRoom<'a> {
     pub gains: &'a mut [f64],
 }
 
-/// The records of the seeded segments of all layers; how many. Reads m, forbidden and layers. Refusals: 1, 2, 4, 5, 6, 7.
+/// The records of the seeded segments of all layers; how many. Reads m, closed, forbidden and layers.
+/// Refusals: 1, 2, 4, 5, 6, 7.
 pub fn seeded_segments(matrix: Matrix, settings: &Settings, room: SegmentsRoom) -> Result<usize, Refusal> {
     let (barred, layers) = (settings.barred(), settings.layers);
     let mut count = 0;
@@ -27,6 +28,7 @@ pub fn seeded_segments(matrix: Matrix, settings: &Settings, room: SegmentsRoom) 
             matrix.rows,
             matrix.columns,
             settings.m,
+            settings.closed,
             barred.as_ptr(),
             barred.len(),
             layers.as_ptr(),
@@ -43,8 +45,8 @@ pub fn seeded_segments(matrix: Matrix, settings: &Settings, room: SegmentsRoom) 
     unless(no, count)
 }
 
-/// The memory that a tree is grown in. With T as in [`SegmentsRoom`] and B the greater of 1 and `2 * floor((rows - 1) / m) - 1`:
-/// sums `(rows + 1) * columns`, rows `3 * (T + B)`, gains `T + B`, nodes B, cuts `(B - 1) / 2`.
+/// The memory that a tree is grown in. With T as in [`SegmentsRoom`] and B the greater of 1 and `2 * floor((rows - 1) / m) - 1`, with a
+/// closed end `2 * floor(rows / m) - 1`: sums `(rows + 1) * columns`, rows `3 * (T + B)`, gains `T + B`, nodes B, cuts `(B - 1) / 2`.
 #[derive(Debug, Default)]
 pub struct TreeRoom<'a> {
     /// Takes the prefix sums.
@@ -59,19 +61,20 @@ pub struct TreeRoom<'a> {
     pub cuts: &'a mut [usize],
 }
 
-/// The tree of the run: how many nodes, records and cuts it has. Reads m, threshold, forbidden and layers. A tree that can be deeper than
-/// 128 levels is grown on a thread of its own; one that can't takes up to 144 KiB of the caller's stack. Refusals: 1, 2, 3 (threshold), 4,
-/// 5, 6, 7; 0 where there is no such thread.
+/// The tree of the run: how many nodes, records and cuts it has. Reads m, closed, threshold, forbidden and layers. A tree that can be
+/// deeper than 128 levels is grown on a thread of its own; one that can't takes up to 144 KiB of the caller's stack. Refusals: 1, 2,
+/// 3 (threshold), 4, 5, 6, 7; 0 where there is no such thread.
 pub fn tree(matrix: Matrix, settings: &Settings, room: TreeRoom) -> Result<Counts, Refusal> {
     let (barred, layers) = (settings.barred(), settings.layers);
     let mut counts = [0; 3];
-    let no = grown(matrix.rows, settings.m, || unsafe {
+    let no = grown(most_levels(matrix.rows, settings), || unsafe {
         ffi::changeforest_tree(
             matrix.cells.as_ptr(),
             matrix.cells.len(),
             matrix.rows,
             matrix.columns,
             settings.m,
+            settings.closed,
             settings.threshold,
             barred.as_ptr(),
             barred.len(),
@@ -102,9 +105,14 @@ const BESIDES: usize = 1 << 16;
 /// Trees of at most so many levels are grown on the caller's stack.
 const SHALLOW: usize = 128;
 
-/// The call, on a thread with stack enough where the tree can be deep: it has at most the greater of 1 and floor((n-1)/m) levels.
-fn grown<T: Send>(rows: usize, m: usize, call: impl FnOnce() -> T + Send) -> Result<T, Refusal> {
-    let levels = rows.min(4096).saturating_sub(1) / m.max(1);
+/// The most levels that a tree can have: the greater of 1 and floor((n-1)/m), with a closed end floor(n/m).
+fn most_levels(rows: usize, settings: &Settings) -> usize {
+    let rows = rows.min(4096).saturating_sub(usize::from(!settings.closed));
+    (rows / settings.m.max(1)).max(1)
+}
+
+/// The call, on a thread with stack enough where the tree can be deep.
+fn grown<T: Send>(levels: usize, call: impl FnOnce() -> T + Send) -> Result<T, Refusal> {
     if levels <= SHALLOW {
         return Ok(call());
     }
@@ -122,6 +130,14 @@ fn on_thread<T: Send>(stack: usize, call: impl FnOnce() -> T + Send) -> Result<T
 #[cfg(test)]
 mod tests {
     use super::*;
+
+    #[test]
+    fn levels_follow_the_setting() {
+        let levels = |rows, m, closed| most_levels(rows, &Settings { m, closed, ..Settings::default() });
+        assert_eq!([levels(4096, 1, false), levels(4096, 1, true)], [4095, 4096]);
+        assert_eq!([levels(10, 5, false), levels(10, 5, true)], [1, 2]);
+        assert_eq!([levels(1, 4096, false), levels(0, 0, false), levels(usize::MAX, 0, true)], [1, 1, 4096]);
+    }
 
     #[test]
     fn no_thread_is_an_error() {

@@ -5,7 +5,7 @@ use crate::refusal::unless;
 use crate::{ffi, Guesses, Refusal, Settings, Split};
 
 /// The candidate of a segment of a run of `rows` rows with the greatest value of the curve, and that value; `guess` where there is none.
-/// Reads m and forbidden. Refusals: 1 (rows alone), 2, 5, 8, 9, 10, 12.
+/// Reads m, closed and forbidden. Refusals: 1 (rows alone), 2, 5, 8, 9, 10, 12.
 pub fn pick(
     curve: &[f64],
     rows: usize,
@@ -21,6 +21,7 @@ pub fn pick(
             curve.len(),
             rows,
             settings.m,
+            settings.closed,
             barred.as_ptr(),
             barred.len(),
             segment.start,
@@ -33,7 +34,7 @@ pub fn pick(
     unless(no, Split { split, gain })
 }
 
-/// The guesses for a segment of a run of `rows` rows. Reads m and forbidden, of which an empty list is not the same as `None`.
+/// The guesses for a segment of a run of `rows` rows. Reads m, closed and forbidden, of which an empty list is not the same as `None`.
 /// Refusals: 1 (rows alone), 2, 5, 8, 9, 10.
 pub fn guesses(rows: usize, segment: Range<usize>, settings: &Settings) -> Result<Guesses, Refusal> {
     let barred = settings.barred();
@@ -42,6 +43,7 @@ pub fn guesses(rows: usize, segment: Range<usize>, settings: &Settings) -> Resul
         ffi::changeforest_guesses(
             rows,
             settings.m,
+            settings.closed,
             settings.forbidden.is_some(),
             barred.as_ptr(),
             barred.len(),
