@@ -27,14 +27,17 @@ impl Lines {
     }
 }
 
-/// The kind of a case, by the answer `unknown` where the line is none.
+/// The kind of a case, whatever stands before it, by the answer `unknown` where the line is none.
 fn kind<'a>(case: &'a str, answer: &str) -> &'a str {
-    let mut words = case.split(' ');
-    match words.next() {
-        _ if answer == "unknown" => "no case",
-        Some("short") => words.nth(2).unwrap_or_default(),
-        word => word.unwrap_or_default(),
+    let mut words = case.split(' ').peekable();
+    if answer == "unknown" {
+        return "no case";
     }
+    if words.next_if_eq(&"short").is_some() {
+        words.nth(1);
+    }
+    words.next_if_eq(&"closed");
+    words.next().unwrap_or_default()
 }
 
 fn shown(line: &str) -> String {

@@ -7,7 +7,7 @@ mod original;
 
 use changeforest::optimizer::OptimizerResult;
 use changeforest::{Control, ModelSelectionResult, Optimizer, Segmentation, SegmentationType};
-use protocol::{Matrix, Perm, Segment};
+use protocol::{Matrix, Perm, Segment, Shortest};
 use std::cell::RefCell;
 use std::fmt::Debug;
 use std::panic::{catch_unwind, AssertUnwindSafe};
@@ -26,8 +26,13 @@ fn column(cells: &[f64]) -> Matrix {
     Matrix { n: cells.len(), d: 1, cells: cells.into() }
 }
 
+/// The Rust has no closed end.
+fn whole(m: usize) -> Shortest {
+    Shortest { m, closed: false }
+}
+
 fn segment(n: usize, m: usize, start: usize, stop: usize) -> Segment {
-    Segment { n, m, forbidden: None, start, stop }
+    Segment { n, shortest: whole(m), forbidden: None, start, stop }
 }
 
 fn sizes_and_lengths() {
@@ -64,7 +69,7 @@ fn sizes_and_lengths() {
 
 fn nodes(cells: &[f64], d: usize, threshold: f64) -> usize {
     let matrix = Matrix { d, ..column(cells) };
-    original::tree(&matrix, 1, threshold, &None, &[]).nodes.len()
+    original::tree(&matrix, whole(1), threshold, &None, &[]).nodes.len()
 }
 
 fn thresholds() {
@@ -100,6 +105,9 @@ fn found(matrix: &Matrix) -> (usize, f64) {
 fn ends_and_splits() {
     probe("candidates of [3,1), m 1", || original::cand(&segment(4, 1, 3, 1)));
     probe("candidates of [0,6), n 4, m 1", || original::cand(&segment(4, 1, 0, 6)));
+    probe("candidates of [0,4), m 1", || original::cand(&segment(4, 1, 0, 4)));
+    probe("candidates of [0,10), m 5", || original::cand(&segment(10, 5, 0, 10)));
+    probe("rows 0 0 0 0, m 1, threshold -1, nodes", || nodes(&[0.0; 4], 1, -1.0));
     let rows = column(&[0.0, 1.0, 3.0, 7.0]);
     probe("gain of [1,3) at 0", || original::gain(&rows, 1, 3, 0).0);
     probe("gain of [0,2) at 3", || original::gain(&rows, 0, 2, 3).0);
@@ -142,7 +150,7 @@ fn curves() {
 /// One permutation in place, alpha 0.5, base 0 for every curve.
 fn permuted(l: usize, m: usize, deltas: &[Vec<f64>], max: f64) -> Perm {
     Perm {
-        m,
+        shortest: whole(m),
         alpha: 0.5,
         p: 1,
         max,
@@ -239,10 +247,10 @@ fn layers() {
         }
     }
     probe("layer 1/5000, n 4, records", || {
-        original::tree(&column(&[0.0; 4]), 1, 0.0, &None, &[1.0 / 5000.0]).records.len()
+        original::tree(&column(&[0.0; 4]), whole(1), 0.0, &None, &[1.0 / 5000.0]).records.len()
     });
     probe("65 layers of 0.5, n 6, m 1, records", || {
-        original::tree(&column(&[0.0; 6]), 1, 0.0, &None, &[0.5; 65]).records.len()
+        original::tree(&column(&[0.0; 6]), whole(1), 0.0, &None, &[0.5; 65]).records.len()
     });
 }
 

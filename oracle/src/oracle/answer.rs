@@ -58,11 +58,11 @@ fn values(case: &Case) -> String {
             let found = original::search(matrix, segment);
             Search::answer(found.split, found.gain)
         }
-        Case::Seeded(Seeded { matrix, m, forbidden, layers }) => {
-            Seeded::answer(&original::seeded(matrix, *m, forbidden, layers))
+        Case::Seeded(Seeded { matrix, shortest, forbidden, layers }) => {
+            Seeded::answer(&original::seeded(matrix, *shortest, forbidden, layers))
         }
-        Case::Tree(Tree { matrix, m, threshold, forbidden, layers }) => {
-            Tree::answer(&original::tree(matrix, *m, *threshold, forbidden, layers))
+        Case::Tree(Tree { matrix, shortest, threshold, forbidden, layers }) => {
+            Tree::answer(&original::tree(matrix, *shortest, *threshold, forbidden, layers))
         }
         Case::Order(Order { matrix }) => {
             let (ordering, distances) = original::order(matrix);

@@ -2,7 +2,7 @@
 //! grammar and the refusals are a second reading of that section; the tree is the Rust's.
 
 use crate::original;
-use protocol::{bits, value, Grown, Matrix};
+use protocol::{bits, value, Grown, Matrix, Shortest};
 
 const LONGEST_LINE: usize = 1_024;
 const MOST_DIGITS: usize = 10;
@@ -84,7 +84,8 @@ impl Deck {
         let cells = self.cells.iter().map(|cell| *cell as f64).collect();
         let matrix = Matrix { n: self.n, d: self.d, cells };
         let forbidden = Some(self.pairs.concat());
-        original::tree(&matrix, self.m, self.threshold, &forbidden, &[])
+        let shortest = Shortest { m: self.m, closed: false };
+        original::tree(&matrix, shortest, self.threshold, &forbidden, &[])
     }
 }
 

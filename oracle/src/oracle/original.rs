@@ -13,6 +13,7 @@ use changeforest::{
 use ndarray::{Array1, Array2, ArrayView2};
 use protocol::{
     Cand, Case, Forbidden, Grown, Guesses, Matrix, Node, Perm, Pick, Record, Rel, Search, Segment,
+    Shortest,
 };
 use std::panic::catch_unwind;
 
@@ -88,14 +89,14 @@ fn pairs(forbidden: &Forbidden) -> Option<Vec<(usize, usize)>> {
     forbidden.as_ref().map(|list| list.chunks_exact(2).map(pair).collect())
 }
 
-fn control(m: usize, forbidden: &Forbidden) -> Control {
+fn control(shortest: Shortest, forbidden: &Forbidden) -> Control {
     let mut control = Control::default().with_forbidden_segments(pairs(forbidden));
-    control.whole_m = Some(m);
+    (control.whole_m, control.closed_end) = (Some(shortest.m), shortest.closed);
     control
 }
 
 fn run(segment: &Segment) -> Run {
-    let control = control(segment.m, &segment.forbidden);
+    let control = control(segment.shortest, &segment.forbidden);
     Run { n: segment.n, control, curve: vec![] }
 }
 
@@ -139,7 +140,7 @@ pub fn gain(matrix: &Matrix, start: usize, stop: usize, split: usize) -> (f64, V
 }
 
 pub fn search(matrix: &Matrix, segment: &Segment) -> Record {
-    let (view, control) = (view(matrix), control(segment.m, &segment.forbidden));
+    let (view, control) = (view(matrix), control(segment.shortest, &segment.forbidden));
     let grid = GridSearch { gain: ChangeInMean::new(&view, &control) };
     let found = grid.find_best_split(segment.start, segment.stop);
     record(&found.expect("an admitted segment has candidates"))
@@ -155,16 +156,22 @@ fn segmentation(optimizer: &dyn Optimizer) -> Segmentation<'_> {
 }
 
 /// The records stored before a tree is grown.
-pub fn seeded(matrix: &Matrix, m: usize, no: &Forbidden, layers: &[f64]) -> Vec<Record> {
-    let (view, mut control) = (view(matrix), control(m, no));
+pub fn seeded(matrix: &Matrix, shortest: Shortest, no: &Forbidden, layers: &[f64]) -> Vec<Record> {
+    let (view, mut control) = (view(matrix), control(shortest, no));
     control.lent_layers = layers.to_vec();
     let grid = GridSearch { gain: ChangeInMean::new(&view, &control) };
     segmentation(&grid).segments.iter().map(record).collect()
 }
 
-pub fn tree(matrix: &Matrix, m: usize, threshold: f64, no: &Forbidden, layers: &[f64]) -> Grown {
+pub fn tree(
+    matrix: &Matrix,
+    shortest: Shortest,
+    threshold: f64,
+    no: &Forbidden,
+    layers: &[f64],
+) -> Grown {
     let view = view(matrix);
-    let mut control = control(m, no).with_minimal_gain_to_split(Some(threshold));
+    let mut control = control(shortest, no).with_minimal_gain_to_split(Some(threshold));
     control.lent_layers = layers.to_vec();
     let grid = GridSearch { gain: ChangeInMean::new(&view, &control) };
     let mut segmentation = segmentation(&grid);
@@ -242,7 +249,7 @@ pub fn perm(case: &Perm) -> (usize, f64, bool) {
 
 /// The counter isn't handed out: p*(P+1), rounded, gives it.
 pub fn permuted(case: &Perm, l: usize) -> (usize, f64, bool) {
-    let control = control(case.m, &None)
+    let control = control(case.shortest, &None)
         .with_model_selection_alpha(case.alpha)
         .with_model_selection_n_permutations(case.p);
     let curves = case.deltas.iter().map(|curve| Array1::from_vec(curve.clone())).collect();
@@ -318,8 +325,8 @@ fn own_list(forbidden: &Forbidden) -> Vec<(usize, bool)> {
 /// The Rust takes any ends; it is asked where they are in order and of a size to be listed.
 fn own_candidates(segment: &Segment) -> Vec<(usize, bool)> {
     const LONGEST: usize = 100_000;
-    let listed = segment.start <= segment.stop && segment.stop <= LONGEST && segment.m <= LONGEST;
-    if !listed {
+    let Segment { start, stop, shortest, .. } = *segment;
+    if start > stop || stop > LONGEST || shortest.m > LONGEST {
         return vec![];
     }
     let refused = cand(segment).err();

@@ -1,9 +1,10 @@
-//! The refusals: a second reading of document 01 ("Refusal numbers", "Sizes") and of the decisions
-//! that go with it, made for the oracle alone. Nothing here is taken from the Rust, which has few
-//! refusals, nor from the code that the oracle judges. Rule by rule, in number order.
+//! The refusals: a second reading of document 01 ("Refusal numbers", "Sizes"), of the closed end in
+//! document 02 and of the decisions that go with them, made for the oracle alone. Nothing here is taken
+//! from the Rust, which has few refusals, nor from the code that the oracle judges. Rule by rule, in
+//! number order.
 
 use protocol::{
-    Cand, Case, Curve, Forbidden, Gain, Guesses, Knn, Matrix, Perm, Pick, Rel, Segment,
+    Cand, Case, Curve, Forbidden, Gain, Guesses, Knn, Matrix, Perm, Pick, Rel, Segment, Shortest,
 };
 
 const MOST_ROWS: usize = 4_096;
@@ -49,8 +50,8 @@ fn matrix(matrix: &Matrix, most: usize) -> bool {
 
 // 2: "m outside its size; or a relative length not strictly between 0 and 0.5 (NaN included)".
 
-fn minimal_length(m: usize) -> bool {
-    m < 1 || m > MOST_M
+fn minimal_length(shortest: Shortest) -> bool {
+    shortest.m < 1 || shortest.m > MOST_M
 }
 
 fn relative_length(r: f64) -> bool {
@@ -105,10 +106,12 @@ fn split_outside(start: usize, stop: usize, split: usize) -> bool {
     split < start || split > stop
 }
 
-// 9: "2*m >= stop-start"; permutation counts "for 2*m >= L".
+// 9: "2*m >= stop-start"; permutation counts "for 2*m >= L". With a closed end "2*m > stop-start", and
+// "L = 2m is then admitted" (document 02).
 
-fn too_short(m: usize, length: i128) -> bool {
-    2 * m as i128 >= length
+fn too_short(shortest: Shortest, length: i128) -> bool {
+    let twice = 2 * shortest.m as i128;
+    twice > length || (twice == length && !shortest.closed)
 }
 
 fn length(segment: &Segment) -> i128 {
@@ -116,11 +119,12 @@ fn length(segment: &Segment) -> i128 {
 }
 
 // 10: "a candidate range exists but every row of it is forbidden". Rows x with
-// start+m <= x < stop-m, except a < x <= b for some pair.
+// start+m <= x < stop-m, except a < x <= b for some pair. With a closed end "x = stop-m allowed".
 
 fn range(segment: &Segment) -> (i128, i128) {
-    let m = segment.m as i128;
-    (segment.start as i128 + m, segment.stop as i128 - m)
+    let Shortest { m, closed } = segment.shortest;
+    let end = segment.stop as i128 - m as i128;
+    (segment.start as i128 + m as i128, if closed { end + 1 } else { end })
 }
 
 fn barred_up_to(forbidden: &Forbidden, x: i128) -> Option<i128> {
@@ -170,10 +174,10 @@ fn bad_lengths(lengths: &[usize]) -> bool {
 /// 2, 5, 8, 9 and 10 of a segment that is searched.
 fn searched(verdict: Verdict, segment: &Segment) -> Verdict {
     verdict
-        .rule(2, minimal_length(segment.m))
+        .rule(2, minimal_length(segment.shortest))
         .rule(5, bad_list(&segment.forbidden))
         .rule(8, outside(segment.n, segment.start, segment.stop))
-        .rule(9, too_short(segment.m, length(segment)))
+        .rule(9, too_short(segment.shortest, length(segment)))
         .rule(10, all_barred(segment))
 }
 
@@ -186,10 +190,10 @@ fn permuted(verdict: Verdict, case: &Perm) -> Verdict {
     let l = lengths.first().copied().unwrap_or(0);
     let infinite = not_finite(bases) || deltas.iter().any(|curve| not_finite(curve));
     verdict
-        .rule(2, minimal_length(case.m))
+        .rule(2, minimal_length(case.shortest))
         .rule(3, alpha(case.alpha))
         .rule(4, infinite || not_finite(&[case.max]))
-        .rule(9, too_short(case.m, l as i128))
+        .rule(9, too_short(case.shortest, l as i128))
         .rule(11, bad_permutations(&case.perms, case.p, l))
         .rule(12, case.k < 1 || case.k > MOST_CURVES || bad_lengths(&lengths))
 }
@@ -200,8 +204,11 @@ fn measured(verdict: Verdict, cells: &Matrix, most: usize) -> Verdict {
 }
 
 /// 2, 5 and 6 of what segments are seeded by. A tree's threshold is judged beside them, by 3.
-fn seeded(verdict: Verdict, m: usize, forbidden: &Forbidden, layers: &[f64]) -> Verdict {
-    verdict.rule(2, minimal_length(m)).rule(5, bad_list(forbidden)).rule(6, bad_layers(layers))
+fn seeded(verdict: Verdict, shortest: Shortest, forbidden: &Forbidden, layers: &[f64]) -> Verdict {
+    verdict
+        .rule(2, minimal_length(shortest))
+        .rule(5, bad_list(forbidden))
+        .rule(6, bad_layers(layers))
 }
 
 fn picked(verdict: Verdict, case: &Pick) -> Verdict {
@@ -227,11 +234,11 @@ pub fn judge(case: &Case, short: bool) -> Verdict {
         Case::Search(case) => searched(measured(verdict, &case.matrix, MOST_ROWS), &case.segment),
         Case::Seeded(case) => {
             let verdict = measured(verdict, &case.matrix, MOST_ROWS);
-            seeded(verdict, case.m, &case.forbidden, &case.layers)
+            seeded(verdict, case.shortest, &case.forbidden, &case.layers)
         }
         Case::Tree(case) => {
             let verdict = measured(verdict, &case.matrix, MOST_ROWS);
-            seeded(verdict, case.m, &case.forbidden, &case.layers)
+            seeded(verdict, case.shortest, &case.forbidden, &case.layers)
                 .rule(3, threshold(case.threshold))
         }
         Case::Order(case) => measured(verdict, &case.matrix, MOST_NEIGHBOUR_ROWS),

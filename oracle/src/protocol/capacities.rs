@@ -30,8 +30,8 @@ impl Capacities {
         rows: 1_024,
     };
 
-    /// Room for every size of document 01: 4,097*64 sums, 999*4,096 permutation entries, 64*8,191
-    /// stored records and 8,189 more. A forbidden list has no size there.
+    /// Room for every size of document 01, with a closed end too: 4,097*64 sums, 999*4,096 permutation
+    /// entries, 64*8,191 stored records and 8,191 more. A forbidden list has no size there.
     pub const WIDE: Capacities = Capacities {
         line: 128_000_000,
         sums: 262_208,

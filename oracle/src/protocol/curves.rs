@@ -1,7 +1,7 @@
 //! `curve` and `perm`.
 
 use crate::text::{bits, values};
-use crate::{Capacities, Fields, Kind, Slice};
+use crate::{Capacities, Fields, Kind, Shortest, Slice};
 
 pub struct Curve {
     pub l0: Vec<f64>,
@@ -27,7 +27,7 @@ impl Curve {
 }
 
 pub struct Perm {
-    pub m: usize,
+    pub shortest: Shortest,
     pub alpha: f64,
     pub p: usize,
     pub max: f64,
@@ -40,12 +40,12 @@ pub struct Perm {
 impl Kind for Perm {
     /// M ALPHA P MAX K BASE.. DELTAS.. PERMS
     fn read(fields: &mut Fields) -> Option<Self> {
-        let (m, alpha) = (fields.number()?, fields.value()?);
+        let (shortest, alpha) = (fields.shortest()?, fields.value()?);
         let (p, max, k) = (fields.number()?, fields.value()?, fields.number()?);
         let bases = fields.counted(k)?;
         let deltas = (0..k).map(|_| fields.curve()).collect::<Option<_>>()?;
         let perms = fields.permutations()?;
-        Some(Perm { m, alpha, p, max, k, bases, deltas, perms })
+        Some(Perm { shortest, alpha, p, max, k, bases, deltas, perms })
     }
 }
 

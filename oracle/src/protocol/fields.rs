@@ -1,6 +1,7 @@
 //! The fields of a line, parted by single blanks, read one after another.
 
-use crate::{Capacities, Forbidden, Matrix, Segment};
+use crate::{Capacities, Forbidden, Matrix, Segment, Shortest};
+use std::mem::take;
 use std::slice::Split;
 
 // A number of the page has 64 bits.
@@ -10,11 +11,18 @@ pub struct Fields<'a> {
     words: Split<'a, u8, fn(&u8) -> bool>,
     capacities: Capacities,
     passed: bool,
+    /// The prefix `closed`, until M is read with it.
+    closed: bool,
 }
 
 impl<'a> Fields<'a> {
     pub(crate) fn of(words: &'a [u8], capacities: Capacities) -> Self {
-        Fields { words: words.split(|byte| *byte == b' '), capacities, passed: false }
+        Fields {
+            words: words.split(|byte| *byte == b' '),
+            capacities,
+            passed: false,
+            closed: false,
+        }
     }
 
     /// Whether a list that was read passes its capacity.
@@ -22,8 +30,24 @@ impl<'a> Fields<'a> {
         self.passed
     }
 
+    /// Whether nothing is left, no prefix that the kind doesn't take either.
     pub(crate) fn at_end(mut self) -> bool {
-        self.words.next().is_none()
+        self.words.next().is_none() && !self.closed
+    }
+
+    /// Whether this word comes next, which is then passed over.
+    pub(crate) fn next_is(&mut self, word: &[u8]) -> bool {
+        let mut rest = self.words.clone();
+        let is = rest.next() == Some(word);
+        if is {
+            self.words = rest;
+        }
+        is
+    }
+
+    /// The prefix `closed`, where it comes next.
+    pub(crate) fn closed(&mut self) {
+        self.closed = self.next_is(b"closed");
     }
 
     pub fn word(&mut self) -> Option<&'a [u8]> {
@@ -72,18 +96,22 @@ impl<'a> Fields<'a> {
 
     /// F
     pub fn forbidden(&mut self) -> Option<Forbidden> {
-        if self.words.clone().next()? == b"-" {
-            self.word();
+        if self.next_is(b"-") {
             return Some(None);
         }
         self.list(self.capacities.forbidden, number).map(Some)
+    }
+
+    /// M, under the prefix `closed` or without it.
+    pub fn shortest(&mut self) -> Option<Shortest> {
+        Some(Shortest { m: self.number()?, closed: take(&mut self.closed) })
     }
 
     /// M F START STOP, of a run of n rows.
     pub fn segment(&mut self, n: usize) -> Option<Segment> {
         Some(Segment {
             n,
-            m: self.number()?,
+            shortest: self.shortest()?,
             forbidden: self.forbidden()?,
             start: self.number()?,
             stop: self.number()?,

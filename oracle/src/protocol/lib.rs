@@ -18,7 +18,7 @@ pub use capacities::Capacities;
 pub use curves::{Curve, Perm};
 pub use fields::{value, Fields};
 pub use lengths::{Rel, F32};
-pub use mean::{Cand, Forbidden, Gain, Matrix, Search, Segment};
+pub use mean::{Cand, Forbidden, Gain, Matrix, Search, Segment, Shortest};
 pub use neighbours::{Knn, Order};
 pub use room::Slice;
 pub use segments::{Record, Seeded};
@@ -30,7 +30,8 @@ use room::Short;
 
 /// A kind of case.
 pub trait Kind: Sized {
-    /// Reads the fields after the kind's word; nothing where they are not there.
+    /// Reads the fields after the kind's word; nothing where they are not there. A kind that reads M by
+    /// `shortest` takes the prefix `closed`, and no other does.
     fn read(fields: &mut Fields) -> Option<Self>;
 
     /// The slices that it lends, in the page's order.
@@ -92,13 +93,12 @@ impl Line {
     pub fn read(line: &[u8], capacities: Capacities) -> Option<Line> {
         let words = line.strip_suffix(b"\n").filter(|_| line.len() <= capacities.line)?;
         let mut fields = Fields::of(words, capacities);
-        let mut word = fields.word()?;
         let mut short = None;
-        if word == b"short" {
+        if fields.next_is(b"short") {
             short = Some(Short { slice: fields.number()?, less: fields.number()? });
-            word = fields.word()?;
         }
-        let case = Case::read(word, &mut fields)?;
+        fields.closed();
+        let case = Case::read(fields.word()?, &mut fields)?;
         let slices = case.lends(&capacities);
         let named = short.is_none_or(|short| (1..=slices.len()).contains(&short.slice));
         let too_large = fields.passed();

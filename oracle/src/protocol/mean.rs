@@ -11,10 +11,17 @@ pub struct Matrix {
     pub cells: Vec<f64>,
 }
 
+/// The shortest part that a split may leave: m rows, on the right one more unless the end is closed.
+#[derive(Clone, Copy)]
+pub struct Shortest {
+    pub m: usize,
+    pub closed: bool,
+}
+
 /// A segment of a run of n rows, and what bars rows of it.
 pub struct Segment {
     pub n: usize,
-    pub m: usize,
+    pub shortest: Shortest,
     pub forbidden: Forbidden,
     pub start: usize,
     pub stop: usize,
@@ -33,8 +40,7 @@ impl Kind for Cand {
 
     /// Candidates.
     fn lends(&self, capacities: &Capacities) -> Vec<Slice> {
-        let Segment { start, stop, m, .. } = self.segment;
-        vec![capacities.by_ends(start, stop, 2 * m as u128)]
+        vec![capacities.candidates(&self.segment)]
     }
 }
 

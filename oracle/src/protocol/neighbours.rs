@@ -43,7 +43,7 @@ impl Kind for Knn {
 
     /// Ordering, distances, output.
     fn lends(&self, capacities: &Capacities) -> Vec<Slice> {
-        let output = capacities.by_ends(self.start, self.stop, 0);
+        let output = capacities.predictions(self.start, self.stop);
         capacities.ordering(self.matrix.n).into_iter().chain([output]).collect()
     }
 }

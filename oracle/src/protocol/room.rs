@@ -1,7 +1,7 @@
-//! Lent memory: what document 01 asks of each slice, and what docs/REPLAY.md lends. All lengths are
-//! exact.
+//! Lent memory: what document 01 asks of each slice, with a closed end document 02, and what
+//! docs/REPLAY.md lends. All lengths are exact.
 
-use crate::{Capacities, Matrix};
+use crate::{Capacities, Matrix, Segment, Shortest};
 
 /// `short I K`.
 #[derive(Clone, Copy)]
@@ -25,9 +25,10 @@ fn slice(asked: Option<u128>, capacity: usize) -> Slice {
     Slice { asked, capacity: capacity as u128, by_ends: false }
 }
 
-/// "B = max(1, 2*floor((n-1)/m)-1)".
-fn most_nodes(n: usize, m: usize) -> Option<u128> {
-    let floor = (n as i128 - 1).checked_div_euclid(m as i128)?;
+/// "B = max(1, 2*floor((n-1)/m)-1)"; with a closed end "max(1, 2*floor(n/m)-1)".
+fn most_nodes(n: usize, shortest: Shortest) -> Option<u128> {
+    let rows = n as i128 - i128::from(!shortest.closed);
+    let floor = rows.checked_div_euclid(shortest.m as i128)?;
     Some((2 * floor - 1).max(1) as u128)
 }
 
@@ -42,10 +43,20 @@ fn most_stored(layers: &[f64]) -> Option<u128> {
 
 /// What document 01 asks of each slice, under the capacity of its array.
 impl Capacities {
-    /// What is asked by the ends of a segment, `less` of its rows not counted.
-    pub(crate) fn by_ends(&self, start: usize, stop: usize, less: u128) -> Slice {
-        let asked = (stop as u128).saturating_sub(start as u128).saturating_sub(less);
-        Slice { by_ends: true, ..slice(Some(asked), self.curve) }
+    /// What is asked by the ends of a segment, 0 where that is negative.
+    fn by_ends(&self, asked: i128) -> Slice {
+        Slice { by_ends: true, ..slice(Some(asked.max(0) as u128), self.curve) }
+    }
+
+    /// "stop-start-2m entries (0 if that is negative)"; with a closed end "stop-start-2m+1".
+    pub(crate) fn candidates(&self, segment: &Segment) -> Slice {
+        let Segment { start, stop, shortest: Shortest { m, closed }, .. } = *segment;
+        self.by_ends(stop as i128 - start as i128 - 2 * m as i128 + i128::from(closed))
+    }
+
+    /// "L f64 (0 if start > stop)".
+    pub(crate) fn predictions(&self, start: usize, stop: usize) -> Slice {
+        self.by_ends(stop as i128 - start as i128)
     }
 
     pub(crate) fn curve(&self, length: usize) -> Slice {
@@ -69,8 +80,8 @@ impl Capacities {
     }
 
     /// "B nodes, T+B records, (B-1)/2 cuts", in the page's order: records, nodes, cuts.
-    pub(crate) fn grown(&self, n: usize, m: usize, layers: &[f64]) -> [Slice; 3] {
-        let nodes = most_nodes(n, m);
+    pub(crate) fn grown(&self, n: usize, shortest: Shortest, layers: &[f64]) -> [Slice; 3] {
+        let nodes = most_nodes(n, shortest);
         let records = nodes.and_then(|nodes| Some(most_stored(layers)? + nodes));
         let cuts = nodes.map(|nodes| (nodes - 1) / 2);
         [records, nodes, cuts].map(|asked| slice(asked, self.records))

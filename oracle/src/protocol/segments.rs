@@ -1,11 +1,11 @@
 //! `seeded`, and the records that it and `tree` tell.
 
 use crate::text::{all, bits};
-use crate::{Capacities, Fields, Forbidden, Kind, Matrix, Slice};
+use crate::{Capacities, Fields, Forbidden, Kind, Matrix, Shortest, Slice};
 
 pub struct Seeded {
     pub matrix: Matrix,
-    pub m: usize,
+    pub shortest: Shortest,
     pub forbidden: Forbidden,
     pub layers: Vec<f64>,
 }
@@ -14,8 +14,9 @@ impl Kind for Seeded {
     /// N D M F LAYERS CELLS
     fn read(fields: &mut Fields) -> Option<Self> {
         let size = fields.size()?;
-        let (m, forbidden, layers) = (fields.number()?, fields.forbidden()?, fields.layers()?);
-        Some(Seeded { matrix: fields.matrix(size)?, m, forbidden, layers })
+        let shortest = fields.shortest()?;
+        let (forbidden, layers) = (fields.forbidden()?, fields.layers()?);
+        Some(Seeded { matrix: fields.matrix(size)?, shortest, forbidden, layers })
     }
 
     /// Sums, records.

@@ -2,11 +2,11 @@
 
 use crate::segments::counted;
 use crate::text::{all, bits, rows};
-use crate::{Capacities, Fields, Forbidden, Kind, Matrix, Record, Slice};
+use crate::{Capacities, Fields, Forbidden, Kind, Matrix, Record, Shortest, Slice};
 
 pub struct Tree {
     pub matrix: Matrix,
-    pub m: usize,
+    pub shortest: Shortest,
     pub threshold: f64,
     pub forbidden: Forbidden,
     pub layers: Vec<f64>,
@@ -16,14 +16,14 @@ impl Kind for Tree {
     /// N D M THRESHOLD F LAYERS CELLS
     fn read(fields: &mut Fields) -> Option<Self> {
         let size = fields.size()?;
-        let (m, threshold) = (fields.number()?, fields.value()?);
+        let (shortest, threshold) = (fields.shortest()?, fields.value()?);
         let (forbidden, layers) = (fields.forbidden()?, fields.layers()?);
-        Some(Tree { matrix: fields.matrix(size)?, m, threshold, forbidden, layers })
+        Some(Tree { matrix: fields.matrix(size)?, shortest, threshold, forbidden, layers })
     }
 
     /// Sums, records, nodes, cuts.
     fn lends(&self, capacities: &Capacities) -> Vec<Slice> {
-        let grown = capacities.grown(self.matrix.n, self.m, &self.layers);
+        let grown = capacities.grown(self.matrix.n, self.shortest, &self.layers);
         [capacities.sums(&self.matrix)].into_iter().chain(grown).collect()
     }
 }

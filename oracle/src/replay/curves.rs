@@ -1,4 +1,5 @@
 use crate::lent::values;
+use crate::mean::shortest;
 use crate::outcome::agree;
 use crate::{Call, Outcome};
 use haspgarnet_changeforest::{lent, owned, Curves, Permutations, Settings};
@@ -27,7 +28,7 @@ impl Call for Perm {
             *lent = *base;
         }
         let permutations = Permutations { entries: &self.perms, count: self.p };
-        let settings = Settings { m: self.m, alpha: self.alpha, ..Settings::default() };
+        let settings = Settings { alpha: self.alpha, ..shortest(self.shortest) };
         let tested = lent::permutation_test(curves, permutations, self.max, &settings);
         let told =
             tested.map(|found| Perm::answer(found.counter, found.p_value, found.significant));

@@ -2,11 +2,15 @@ use crate::lent::{numbers, values};
 use crate::outcome::agree;
 use crate::{Call, Outcome};
 use haspgarnet_changeforest::{lent, owned, Matrix, Settings};
-use protocol::{bits, same, Cand, Gain, Line, Search, Segment};
+use protocol::{bits, same, Cand, Gain, Line, Search, Segment, Shortest};
+
+/// M under the prefix `closed` or without it.
+pub fn shortest(shortest: Shortest) -> Settings<'static> {
+    Settings { m: shortest.m, closed: shortest.closed, ..Settings::default() }
+}
 
 pub fn settings(segment: &Segment) -> Settings<'_> {
-    let forbidden = segment.forbidden.as_deref();
-    Settings { m: segment.m, forbidden, ..Settings::default() }
+    Settings { forbidden: segment.forbidden.as_deref(), ..shortest(segment.shortest) }
 }
 
 pub fn matrix(matrix: &protocol::Matrix) -> Matrix<'_> {

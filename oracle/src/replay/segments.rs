@@ -1,5 +1,5 @@
 use crate::lent::{numbers, values, Lent};
-use crate::mean::{as_gain_leaves, matrix, sums_of};
+use crate::mean::{as_gain_leaves, matrix, shortest, sums_of};
 use crate::outcome::agree;
 use crate::{Call, Outcome};
 use haspgarnet_changeforest::lent::SegmentsRoom;
@@ -41,10 +41,9 @@ impl Call for Seeded {
     fn call(&self, line: &Line) -> Outcome {
         let readings = matrix(&self.matrix);
         let settings = Settings {
-            m: self.m,
             forbidden: self.forbidden.as_deref(),
             layers: &self.layers,
-            ..Settings::default()
+            ..shortest(self.shortest)
         };
         let (mut sums, mut records) = (values(line.lent(1)), Records::of(line.lent(2)));
         let room = SegmentsRoom {

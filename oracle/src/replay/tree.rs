@@ -1,5 +1,5 @@
 use crate::lent::{nodes, numbers, values, Lent};
-use crate::mean::{as_gain_leaves, matrix, sums_of};
+use crate::mean::{as_gain_leaves, matrix, shortest, sums_of};
 use crate::outcome::agree;
 use crate::segments::{record, Records};
 use crate::{Call, Outcome};
@@ -72,11 +72,10 @@ impl Call for Tree {
     fn call(&self, line: &Line) -> Outcome {
         let readings = matrix(&self.matrix);
         let settings = Settings {
-            m: self.m,
             threshold: self.threshold,
             forbidden: self.forbidden.as_deref(),
             layers: &self.layers,
-            ..Settings::default()
+            ..shortest(self.shortest)
         };
         let mut room = Room::of(line);
         let counts = lent::tree(readings, &settings, room.lend());
