@@ -7,6 +7,8 @@ pub struct Draft {
     pub n: u64,
     pub d: u64,
     pub m: u64,
+    /// The prefix `closed`.
+    pub closed: bool,
     pub start: u64,
     pub stop: u64,
     /// The split, or the guess.
@@ -46,6 +48,20 @@ fn values(entries: &[f64]) -> String {
 }
 
 impl Draft {
+    /// The least m that leaves no candidate in so many rows.
+    pub fn refused_m(&self, rows: u64) -> u64 {
+        if self.closed {
+            rows / 2 + 1
+        } else {
+            rows.div_ceil(2)
+        }
+    }
+
+    /// The greatest m that leaves one, or 1 where none does.
+    pub fn most_m(&self, rows: u64) -> u64 {
+        self.refused_m(rows).saturating_sub(1).max(1)
+    }
+
     fn ends(&self) -> String {
         format!("{} {} {} {}", self.m, self.barred(), self.start, self.stop)
     }
@@ -92,6 +108,7 @@ impl Draft {
     pub fn line(&self) -> String {
         let short =
             self.short.map_or(String::new(), |(slice, less)| format!("short {slice} {less} "));
-        format!("{short}{} {}", self.kind, self.fields())
+        let closed = if self.closed { "closed " } else { "" };
+        format!("{short}{closed}{} {}", self.kind, self.fields())
     }
 }

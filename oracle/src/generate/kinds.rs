@@ -9,6 +9,9 @@ pub const KINDS: [&str; 13] = [
     "guesses", "perm",
 ];
 
+/// Those that take the prefix `closed`.
+pub const CLOSED: [&str; 7] = ["cand", "search", "seeded", "tree", "pick", "guesses", "perm"];
+
 pub const FAR: [u64; 4] = [u64::MAX, u64::MAX - 1, 1 << 63, 1 << 40];
 
 fn rows(random: &mut Random) -> u64 {
@@ -52,13 +55,20 @@ fn ends(random: &mut Random, draft: &mut Draft) {
 /// A segment of the draft's rows, an m that mostly leaves candidates, a forbidden list.
 fn segment(random: &mut Random, draft: &mut Draft) {
     ends(random, draft);
-    let most = (draft.stop - draft.start) / 2;
-    draft.m = match random.weighted(&[5, 4, 1]) {
+    let length = draft.stop - draft.start;
+    let most = length / 2;
+    draft.m = match random.weighted(&[5, 4, 1, 2]) {
         0 => 1,
         1 => random.between(1, (most / 2).max(1)),
-        _ => random.between(1, most + 1),
+        2 => random.between(1, most + 1),
+        _ => half(random, length),
     };
     draft.forbidden = forbidden(random, draft.n);
+}
+
+/// m where 2*m is the number of rows, or one beside it.
+fn half(random: &mut Random, rows: u64) -> u64 {
+    random.of(&[rows / 2, rows.div_ceil(2)]).max(1)
 }
 
 fn pair(random: &mut Random, n: u64) -> [u64; 2] {
@@ -110,7 +120,8 @@ fn curve(random: &mut Random, draft: &mut Draft) {
     draft.curves = vec![values::values(random, length), values::values(random, length)];
 }
 
-/// The pick's curve may hold infinities and NaN.
+/// The pick's curve may hold infinities and NaN. Often its greatest value stands at stop-m, which is a
+/// candidate with a closed end alone, and the guess is the last candidate.
 pub fn pick(random: &mut Random, draft: &mut Draft) {
     let length = draft.stop - draft.start;
     let mut curve = values::values(random, length);
@@ -123,16 +134,22 @@ pub fn pick(random: &mut Random, draft: &mut Draft) {
     if random.one_in(20) {
         curve.fill(random.of(&[f64::NAN, f64::NEG_INFINITY, f64::INFINITY]));
     }
+    if random.one_in(4) && draft.m <= length {
+        curve[(length - draft.m) as usize] = random.of(&[f64::MAX, f64::INFINITY]);
+    }
     draft.curves = vec![curve];
     let first = draft.start.saturating_add(draft.m);
-    let count = (draft.stop - draft.start).saturating_sub(2 * draft.m).max(1);
-    draft.split = first + random.below(count);
+    let count = (length + u64::from(draft.closed)).saturating_sub(2 * draft.m).max(1);
+    draft.split = first + if random.one_in(3) { count - 1 } else { random.below(count) };
 }
 
 fn perm(random: &mut Random, draft: &mut Draft) {
     let length = random.of(&[1, 2, 3, 3, 4, 4, 5, 5, 6, 7, 8, 9, 12, 20]);
     let count = random.between(1, 3);
-    draft.m = random.between(1, ((length - 1) / 2).max(1));
+    draft.m = random.between(1, draft.most_m(length));
+    if random.one_in(4) {
+        draft.m = half(random, length);
+    }
     draft.p = random.between(0, 6);
     draft.curves = (0..count).map(|_| values::values(random, length)).collect();
     draft.bases = values::values(random, count);
@@ -200,9 +217,31 @@ fn narrow(random: &mut Random) -> f64 {
     }
 }
 
-pub fn draft(random: &mut Random, kind: &'static str) -> Draft {
+/// The last m rows up to `stop` are set apart, so that the best cut is stop-m, where it is allowed.
+fn apart(draft: &mut Draft, stop: u64) {
+    let from = stop.saturating_sub(draft.m) * draft.d;
+    draft.cells[from as usize..(stop * draft.d) as usize].fill(1e4);
+}
+
+/// A run that is cut wherever it can be, mostly of parts of m rows; its room is often lent exactly.
+fn cut_everywhere(random: &mut Random, draft: &mut Draft) {
+    draft.m = random.between(1, 5);
+    let n = draft.m * random.between(1, 6) + random.of(&[0, 0, 0, 1, draft.m - 1]);
+    matrix(random, draft, n, 1);
+    if random.one_in(2) {
+        draft.cells.fill(0.0);
+    }
+    (draft.value, draft.forbidden) = (-1.0, None);
+    if random.one_in(2) {
+        draft.short = Some((random.between(2, 4), random.of(&[0, 0, 1])));
+    }
+}
+
+/// A case of a kind; one that takes the prefix `closed` has it one time in `closed_in`.
+pub fn draft(random: &mut Random, kind: &'static str, closed_in: u64) -> Draft {
     let n = rows(random);
-    let mut draft = Draft { kind, n, ..Draft::default() };
+    let closed = CLOSED.contains(&kind) && random.one_in(closed_in);
+    let mut draft = Draft { kind, n, closed, ..Draft::default() };
     if matches!(kind, "gain" | "search" | "seeded" | "tree" | "order" | "knn") {
         let n = if matches!(kind, "order" | "knn") { n.min(100) } else { n };
         let d = columns(random, n);
@@ -215,7 +254,22 @@ pub fn draft(random: &mut Random, kind: &'static str) -> Draft {
             draft.value = relative(random, draft.n);
         }
         "f32" => draft.value = narrow(random),
-        "cand" | "search" | "guesses" => segment(random, &mut draft),
+        "cand" => segment(random, &mut draft),
+        "guesses" => {
+            segment(random, &mut draft);
+            if random.one_in(6) {
+                draft.n = n.max(2);
+                draft.start = random.below(draft.n - 1);
+                (draft.stop, draft.m) = (draft.start + 2, 1);
+            }
+        }
+        "search" => {
+            segment(random, &mut draft);
+            if random.one_in(6) {
+                let stop = draft.stop;
+                apart(&mut draft, stop);
+            }
+        }
         "gain" | "knn" => {
             ends(random, &mut draft);
             draft.split = random.between(draft.start, draft.stop);
@@ -231,6 +285,11 @@ pub fn draft(random: &mut Random, kind: &'static str) -> Draft {
             segment(random, &mut draft);
             draft.value = threshold(random);
             draft.layers = values::layers(random);
+            match random.below(12) {
+                0 | 1 => cut_everywhere(random, &mut draft),
+                2 => apart(&mut draft, n),
+                _ => (),
+            }
         }
         "order" => (),
         "curve" => curve(random, &mut draft),

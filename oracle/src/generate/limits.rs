@@ -3,25 +3,25 @@
 //! those that are long in one way are short in another. What is past the capacities is in wide.rs.
 
 use crate::draft::Draft;
-use crate::kinds::{draft, matrix, maximum, permutations, pick};
+use crate::kinds::{matrix, maximum, permutations, pick};
 use crate::random::Random;
 use crate::values::{self, fine_layers, SMALLEST_LAYER};
 
 /// The most pairs of a forbidden list.
 const PAIRS: u64 = 1_024;
 
-/// A case at a limit of document 01, or of the page's capacities.
-pub fn at_limit(random: &mut Random, kind: &'static str) -> Draft {
-    let mut draft = draft(random, kind);
-    match kind {
-        "gain" | "search" => searched(random, &mut draft),
-        "seeded" => seeded(random, &mut draft),
-        "tree" => tree(random, &mut draft),
+/// Makes of a case one at a limit of document 01, or of the page's capacities.
+pub fn at_limit(random: &mut Random, draft: &mut Draft) {
+    draft.short = None;
+    match draft.kind {
+        "gain" | "search" => searched(random, draft),
+        "seeded" => seeded(random, draft),
+        "tree" => tree(random, draft),
         "order" | "knn" => {
             let some = random.between(513, 1_022);
             let n = random.of(&[512, some, 1_023, 1_024]);
             let d = random.of(&[1, 1, 2, 3, 8, 64]);
-            matrix(random, &mut draft, n, d);
+            matrix(random, draft, n, d);
             (draft.start, draft.stop, draft.split) = (random.of(&[0, 0, n / 5]), n, n / 2);
         }
         "curve" => {
@@ -34,19 +34,18 @@ pub fn at_limit(random: &mut Random, kind: &'static str) -> Draft {
             if random.one_in(2) {
                 draft.forbidden = Some(full_list(random, 4_096));
             }
-            if kind == "pick" {
-                pick(random, &mut draft);
+            if draft.kind == "pick" {
+                pick(random, draft);
             }
         }
         "perm" => {
             let some = random.between(17, 262);
             let sizes = [(999, 16), (999, some), (64, 4_096), (65, 4_096), (63, 4_097)];
             let (p, length) = sizes[random.weighted(&[1, 3, 1, 1, 1])];
-            permuted(random, &mut draft, p, length, 1);
+            permuted(random, draft, p, length, 1);
         }
         _ => (),
     }
-    draft
 }
 
 /// A run of the most rows, or of the most columns: 57 columns of 4,096 rows make a line of nearly 4 MB,
@@ -63,7 +62,7 @@ fn large(random: &mut Random, draft: &mut Draft) {
 
 fn searched(random: &mut Random, draft: &mut Draft) {
     large(random, draft);
-    draft.m = random.of(&[1, 7, draft.n / 2 - 1]);
+    draft.m = random.of(&[1, 7, draft.most_m(draft.n)]);
     draft.split = random.between(0, draft.n);
     if draft.d < 57 && random.one_in(2) {
         draft.forbidden = Some(full_list(random, draft.n));
@@ -78,8 +77,9 @@ fn seeded(random: &mut Random, draft: &mut Draft) {
     match random.below(12) {
         0 => draft.layers = most_layers(random),
         1..=4 => {
-            let count = random.of(&[6, 20, 40, 64]);
-            draft.layers = fine_layers(random, count);
+            let most = if draft.closed { 32 } else { 64 };
+            let count = random.of(&[6, 20, most / 2, most]);
+            draft.layers = fine_layers(random, draft.closed, count);
         }
         5 | 6 => {
             draft.layers = vec![0.5, 0.25, random.of(&[0.1, 0.01, 0.001])];
@@ -99,7 +99,10 @@ fn tree(random: &mut Random, draft: &mut Draft) {
     (draft.m, draft.forbidden, draft.layers) = (random.of(&[1, 7, 2_047]), None, vec![]);
     match random.below(16) {
         0 => (),
-        1 | 2 => (draft.cells, draft.value) = (vec![0.0; 4_096], -1.0),
+        1 | 2 => {
+            draft.m = random.of(&[1, 1, 7, 2_047, 2_048]);
+            (draft.cells, draft.value) = (vec![0.0; 4_096], -1.0);
+        }
         3 | 4 => {
             draft.m = random.of(&[1, 40, 300, 700]);
             draft.forbidden = Some(full_list(random, 4_096));
@@ -110,8 +113,9 @@ fn tree(random: &mut Random, draft: &mut Draft) {
             draft.layers = vec![SMALLEST_LAYER; random.of(&[32, 33])];
         }
         7..=9 => {
-            let count = random.of(&[5, 20, 40, 62, 63]);
-            draft.layers = fine_layers(random, count);
+            let most = if draft.closed { 31 } else { 62 };
+            let count = random.of(&[5, 20, most - 10, most, most + 1]);
+            draft.layers = fine_layers(random, draft.closed, count);
             (draft.m, draft.value) = (1, random.of(&[f64::MAX, 40.0, 23.0, 12.0]));
         }
         _ => {
@@ -153,37 +157,37 @@ pub fn long_list(random: &mut Random, n: u64, pairs: u64) -> Vec<u64> {
 
 /// P permutations of `count` curves of a length.
 pub fn permuted(random: &mut Random, draft: &mut Draft, p: u64, length: u64, count: u64) {
-    (draft.p, draft.m) = (p, random.of(&[1, 7, (length - 1) / 2]).min((length - 1) / 2));
+    let most = draft.most_m(length);
+    (draft.p, draft.m) = (p, random.of(&[1, 7, most]).min(most));
     draft.curves = (0..count).map(|_| values::values(random, length)).collect();
     draft.bases = values::values(random, count);
     permutations(random, draft, length);
     draft.max = maximum(random, draft);
 }
 
-/// A case that the others seldom or never come to. A kind that has none gives a case at a limit, and
-/// the others do now and then.
-pub fn at_edge(random: &mut Random, kind: &'static str) -> Draft {
-    let mut draft = draft(random, kind);
+/// Makes of a case one that the others seldom or never come to. A kind that has none gives a case at a
+/// limit, and the others do now and then.
+pub fn at_edge(random: &mut Random, draft: &mut Draft) {
+    draft.short = None;
     if random.one_in(3) {
-        return at_limit(random, kind);
+        return at_limit(random, draft);
     }
-    match kind {
+    match draft.kind {
         "order" | "knn" => {
             let n = random.of(&[100, 200, 513, 1_024, 1_025]);
-            matrix(random, &mut draft, n, 1);
+            matrix(random, draft, n, 1);
             (draft.start, draft.stop, draft.split) = (random.below(n), n, n);
         }
         "tree" => {
             let n = random.of(&[600, 4_096]);
-            matrix(random, &mut draft, n, 1);
+            matrix(random, draft, n, 1);
             (draft.m, draft.value, draft.forbidden) = (random.of(&[1, 2]), f64::MAX, None);
             draft.layers = vec![random.of(&[0.01, 1.0 / 300.0]); random.of(&[1, 5, 64])];
         }
         "pick" => draft.n = draft.stop.saturating_sub(random.below(2)).max(1),
-        "perm" => many(random, &mut draft),
-        _ => return at_limit(random, kind),
+        "perm" => many(random, draft),
+        _ => at_limit(random, draft),
     }
-    draft
 }
 
 /// Permutations up to P's limit or past it, or curves past those that are lent.

@@ -10,6 +10,7 @@ mod spoil;
 mod values;
 mod wide;
 
+use draft::Draft;
 use kinds::KINDS;
 use random::Random;
 use std::io::Write;
@@ -20,61 +21,81 @@ const EDGE: &str = "edge";
 const WIDE: &str = "wide";
 const UNKNOWN: &str = "unknown";
 
-fn line(random: &mut Random, sort: &'static str, kinds: &[&'static str]) -> String {
-    let kind = if KINDS.contains(&sort) { sort } else { random.of(kinds) };
-    if sort == EDGE {
-        return limits::at_edge(random, kind).line();
+/// May be named too: every case of a kind that takes the prefix `closed` has it, and where no kind is
+/// named there are only such kinds. Otherwise one case in so many has it.
+const CLOSED: &str = "closed";
+const SOME_CLOSED: u64 = 3;
+
+fn kind(random: &mut Random, sort: &'static str, kinds: &[&'static str]) -> &'static str {
+    if KINDS.contains(&sort) {
+        return sort;
     }
-    if sort == WIDE {
-        return wide::at_wide(random, kind).line();
-    }
-    if sort == LIMIT || random.one_in(4_000) {
-        return limits::at_limit(random, kind).line();
-    }
-    let line = case(random, kind);
-    match sort == UNKNOWN || random.one_in(250) {
-        true => spoil::garble(random, &line),
-        false => line,
+    let kind = random.of(kinds);
+    match sort == WIDE && !wide::KINDS.contains(&kind) {
+        true => random.of(&wide::KINDS),
+        false => kind,
     }
 }
 
-fn case(random: &mut Random, kind: &'static str) -> String {
-    let mut draft = kinds::draft(random, kind);
-    let numbers = spoil::numbers(kind);
-    let spoils = if numbers.is_empty() { 0 } else { random.weighted(&[70, 18, 12]) };
-    for _ in 0..spoils {
-        let number = random.of(numbers);
-        spoil::spoil(random, &mut draft, number);
-    }
-    if spoil::slices(kind) > 0 && random.one_in(30) {
-        let slice = random.between(1, spoil::slices(kind));
-        draft.short = Some((slice, random.of(&[0, 0, 1])));
+fn line(random: &mut Random, sort: &str, kind: &'static str, closed_in: u64) -> String {
+    let mut draft = kinds::draft(random, kind, closed_in);
+    match sort {
+        EDGE => limits::at_edge(random, &mut draft),
+        WIDE => wide::at_wide(random, &mut draft),
+        LIMIT => limits::at_limit(random, &mut draft),
+        _ if random.one_in(4_000) => limits::at_limit(random, &mut draft),
+        _ => {
+            spoiled(random, &mut draft);
+            if sort == UNKNOWN || random.one_in(250) {
+                return spoil::garble(random, kind, &draft.line());
+            }
+        }
     }
     draft.line()
 }
 
+fn spoiled(random: &mut Random, draft: &mut Draft) {
+    let (numbers, slices) = (spoil::numbers(draft.kind), spoil::slices(draft.kind));
+    let spoils = if numbers.is_empty() { 0 } else { random.weighted(&[70, 18, 12]) };
+    for _ in 0..spoils {
+        let number = random.of(numbers);
+        spoil::spoil(random, draft, number);
+    }
+    if slices > 0 && random.one_in(30) {
+        draft.short = Some((random.between(1, slices), random.of(&[0, 0, 1])));
+    }
+}
+
 fn main() {
     let arguments: Vec<String> = std::env::args().skip(1).collect();
-    let sorts = KINDS.into_iter().chain([LIMIT, EDGE, WIDE, UNKNOWN]);
+    let sorts = KINDS.into_iter().chain([LIMIT, EDGE, WIDE, UNKNOWN, CLOSED]);
     let known = |name: &String| sorts.clone().find(|sort| sort == name);
     let number = |place: usize| arguments.get(place).and_then(|word| word.parse::<u64>().ok());
     let named: Option<Vec<&'static str>> = arguments.iter().skip(2).map(known).collect();
-    let (Some(seed), Some(count), Some(named)) = (number(0), number(1), named) else {
-        let kinds = KINDS.join(" ");
-        eprintln!("generate SEED COUNT [KIND..], of {kinds} {LIMIT} {EDGE} {WIDE} {UNKNOWN}");
+    let (Some(seed), Some(count), Some(mut sorts)) = (number(0), number(1), named) else {
+        let sorts = sorts.collect::<Vec<_>>().join(" ");
+        eprintln!("generate SEED COUNT [KIND..], of {sorts}");
         std::process::exit(2)
     };
-    let sorts = if named.is_empty() { KINDS.to_vec() } else { named };
+    let (closed_in, any) = match sorts.contains(&CLOSED) {
+        true => (1, &kinds::CLOSED[..]),
+        false => (SOME_CLOSED, &KINDS[..]),
+    };
+    sorts.retain(|sort| *sort != CLOSED);
+    if sorts.is_empty() {
+        sorts = any.to_vec();
+    }
     let mut kinds = sorts.clone();
     kinds.retain(|sort| KINDS.contains(sort));
     if kinds.is_empty() {
-        kinds = KINDS.to_vec();
+        kinds = any.to_vec();
     }
     let mut random = Random(seed);
     let mut output = std::io::BufWriter::new(std::io::stdout().lock());
     for _ in 0..count {
         let sort = random.of(&sorts);
-        if writeln!(output, "{}", line(&mut random, sort, &kinds)).is_err() {
+        let kind = kind(&mut random, sort, &kinds);
+        if writeln!(output, "{}", line(&mut random, sort, kind, closed_in)).is_err() {
             return;
         }
     }

@@ -1,7 +1,7 @@
 //! Turns a case into one that a given refusal applies to, and a line into one that is no case.
 
 use crate::draft::Draft;
-use crate::kinds::{permutations, FAR};
+use crate::kinds::{permutations, CLOSED, FAR};
 use crate::random::Random;
 use crate::values;
 
@@ -59,13 +59,13 @@ pub fn spoil(random: &mut Random, draft: &mut Draft, number: u64) {
             draft.short = Some((slice, random.of(&[1, 1, 1, 2, 3, 1_000, u64::MAX])));
         }
         8 => segment(random, draft),
-        9 if draft.kind == "perm" => {
-            let length = draft.curves.first().map_or(0, Vec::len) as u64;
-            draft.m = random.of(&[length.div_ceil(2), length, 4_096]).max(1);
-        }
         9 => {
-            let length = draft.stop.saturating_sub(draft.start);
-            draft.m = random.of(&[length.div_ceil(2), length, 4_096]).clamp(1, 4_096);
+            let length = match draft.kind {
+                "perm" => draft.curves.first().map_or(0, Vec::len) as u64,
+                _ => draft.stop.saturating_sub(draft.start),
+            };
+            let least = draft.refused_m(length);
+            draft.m = random.of(&[least, least, length, 4_096]).clamp(1, 4_096);
         }
         10 => bar_all(random, draft),
         11 => permutation(random, draft),
@@ -185,7 +185,8 @@ fn curves(random: &mut Random, draft: &mut Draft) {
         }
         ("pick", 0 | 1) => {
             let last = draft.stop.saturating_sub(draft.m);
-            draft.split = random.of(&[draft.start, last, draft.stop, u64::MAX, 0]);
+            let past = last.saturating_add(u64::from(draft.closed));
+            draft.split = random.of(&[draft.start, past, draft.stop, u64::MAX, 0]);
         }
         ("curve", 0) => draft.curves = vec![vec![], vec![]],
         (_, 2) => drop(draft.curves.get_mut(which).map(Vec::pop)),
@@ -193,11 +194,11 @@ fn curves(random: &mut Random, draft: &mut Draft) {
     }
 }
 
-/// A line that is no case.
-pub fn garble(random: &mut Random, line: &str) -> String {
+/// A line that is no case, from a case's.
+pub fn garble(random: &mut Random, kind: &str, line: &str) -> String {
     let (first, rest) = line.split_once(' ').unwrap_or((line, ""));
     let (before, last) = line.rsplit_once(' ').unwrap_or((line, ""));
-    match random.below(16) {
+    match random.below(19) {
         0 => String::new(),
         1 => format!("{first}  {rest}"),
         2 => format!("{line} "),
@@ -211,8 +212,12 @@ pub fn garble(random: &mut Random, line: &str) -> String {
         10 => format!("{before} 18446744073709551616"),
         11 => format!("{before} +{last}"),
         12 => format!("short 0 1 {line}"),
-        13 => format!("short {} 0 {line}", slices(first) + 1),
+        13 => format!("short {} 0 {line}", slices(kind) + 1),
         14 => format!("short 1 {line}"),
+        15 => format!("closed short 1 0 {line}"),
+        16 => format!("{first} closed {rest}"),
+        17 if CLOSED.contains(&kind) => format!("closed closed {line}"),
+        17 => format!("closed {line}"),
         _ => format!("{line}\r"),
     }
 }

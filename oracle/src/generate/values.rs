@@ -143,9 +143,11 @@ pub fn layers(random: &mut Random) -> Vec<f64> {
 }
 
 /// Layers of many short segments of 4,096 rows. Of segments in which m = 1 leaves a candidate a layer
-/// has 4,095 at most, with a value just above 2/4096; nearer to that the last one is cut short.
-pub fn fine_layers(random: &mut Random, count: usize) -> Vec<f64> {
-    let least = 2.0 * SMALLEST_LAYER * (1.0 + 2.0_f64.powi(random.of(&[-12, -12, -22])));
+/// has 4,095 at most, with a value just above 2/4096; nearer to that the last one is cut short. With a
+/// closed end it has 8,191, with a value just above 1/4096.
+pub fn fine_layers(random: &mut Random, closed: bool, count: usize) -> Vec<f64> {
+    let rows = if closed { 1.0 } else { 2.0 };
+    let least = rows * SMALLEST_LAYER * (1.0 + 2.0_f64.powi(random.of(&[-12, -12, -22])));
     let spread = random.of(&[0.0, 0.0, 0.5, 6.0]) * SMALLEST_LAYER;
     let value =
         |random: &mut Random| least + spread * (random.bits() >> 11) as f64 / (1_u64 << 53) as f64;

@@ -1,39 +1,38 @@
 //! Cases that document 01 admits and that the page's capacities don't: for the wide ones.
 
 use crate::draft::Draft;
-use crate::kinds::{draft, matrix, pick};
+use crate::kinds::{matrix, pick};
 use crate::limits::{long_list, permuted};
 use crate::random::Random;
 use crate::values::{fine_layers, SMALLEST_LAYER};
 
 /// The kinds that have such cases.
-const KINDS: [&str; 8] = ["cand", "gain", "search", "seeded", "tree", "pick", "guesses", "perm"];
+pub const KINDS: [&str; 8] =
+    ["cand", "gain", "search", "seeded", "tree", "pick", "guesses", "perm"];
 
-/// A case of a kind, or of another where that one has none.
-pub fn at_wide(random: &mut Random, kind: &'static str) -> Draft {
-    let kind = if KINDS.contains(&kind) { kind } else { random.of(&KINDS) };
-    let mut draft = draft(random, kind);
-    match kind {
-        "gain" => columns(random, &mut draft),
+/// Makes such a case of one.
+pub fn at_wide(random: &mut Random, draft: &mut Draft) {
+    draft.short = None;
+    match draft.kind {
+        "gain" => columns(random, draft),
         "search" => match random.below(2) {
-            0 => columns(random, &mut draft),
-            _ => listed(random, &mut draft),
+            0 => columns(random, draft),
+            _ => listed(random, draft),
         },
-        "seeded" | "tree" => layered(random, &mut draft),
+        "seeded" | "tree" => layered(random, draft),
         "perm" => {
             let some = random.between(263, 4_095);
             let (p, length) = random.of(&[(999, 263), (999, some), (999, 4_096), (1_000, 4_096)]);
             let count = random.between(1, 3);
-            permuted(random, &mut draft, p, length, count);
+            permuted(random, draft, p, length, count);
         }
         _ => {
-            listed(random, &mut draft);
-            if kind == "pick" {
-                pick(random, &mut draft);
+            listed(random, draft);
+            if draft.kind == "pick" {
+                pick(random, draft);
             }
         }
     }
-    draft
 }
 
 /// 58 to 64 columns of 4,096 rows.
@@ -42,7 +41,7 @@ fn columns(random: &mut Random, draft: &mut Draft) {
     let d = random.of(&[d, 64]);
     matrix(random, draft, 4_096, d);
     (draft.start, draft.stop, draft.split) = (0, 4_096, random.between(0, 4_096));
-    (draft.m, draft.forbidden) = (random.of(&[1, 7, 800, 2_047]), None);
+    (draft.m, draft.forbidden) = (random.of(&[1, 7, 800, draft.most_m(4_096)]), None);
 }
 
 /// A list of more than 1,024 pairs, now and then of one past the capacity.
@@ -52,7 +51,7 @@ fn listed(random: &mut Random, draft: &mut Draft) {
         matrix(random, draft, 4_096, d);
     }
     (draft.n, draft.start, draft.stop) = (4_096, 0, 4_096);
-    draft.m = random.of(&[1, 5, 300, 2_047]);
+    draft.m = random.of(&[1, 5, 300, draft.most_m(4_096)]);
     let some = random.between(1_026, 49_999);
     let pairs = random.of(&[1_025, some, some, 50_000, 50_000, 50_001]);
     draft.forbidden = Some(long_list(random, 4_096, pairs));
@@ -73,7 +72,7 @@ fn layered(random: &mut Random, draft: &mut Draft) {
         1 => draft.layers = vec![SMALLEST_LAYER; random.of(&[33, 64, 64])],
         2 => {
             let fine = random.of(&[32, 60, 63, 64]);
-            draft.layers = fine_layers(random, fine);
+            draft.layers = fine_layers(random, draft.closed, fine);
             draft.layers.resize(64, SMALLEST_LAYER);
             draft.value = seldom_cut;
             if random.one_in(3) {
