@@ -10,6 +10,7 @@ use lib.Dec.{eqb}
 use lib.Ieee.{Float}
 use lib.ListN.{length}
 use Rattle.scope.specs.Lists.{every}
+use Rattle.scope.specs.Asked.{Shortest}
 use Rattle.scope.specs.Refusals.{mostLength}
 use Rattle.scope.specs.Permutations.{block, exceeds, counter}
 use Rattle.scope.specs.Calls.{wrongLengths}
@@ -17,19 +18,19 @@ use Rattle.scope.proofs.Candidates.{or-false, not-outside}
 use Rattle.classifier_gain.specs.Lent.{lent, Curves}
 use Rattle.scope.proofs.Every.{every-at}
 
-module _ (m L : ℕ) (bases : List Float) (curves : List (List Float)) (maximum : Float) (permutations : List ℕ) where
+module _ (s : Shortest) (L : ℕ) (bases : List Float) (curves : List (List Float)) (maximum : Float) (permutations : List ℕ) where
   abbrev count : ℕ → ℕ
-  count q = counter m L bases curves maximum permutations q
+  count q = counter s L bases curves maximum permutations q
 
   -- one permutation more
-  pub counter-next : (q : ℕ) (b : Bool) → exceeds m L bases curves maximum (block L permutations q) ≡ b → count (q + 1) ≡ count q + cond b 1 0
+  pub counter-next : (q : ℕ) (b : Bool) → exceeds s L bases curves maximum (block L permutations q) ≡ b → count (q + 1) ≡ count q + cond b 1 0
   unfolding counter
   counter-next q b e = rw (add-one, e)
 
   pub counter-most : (q : ℕ) → count q ≤ q + 1
   unfolding counter
   counter-most zero = omega arith
-  counter-most (suc q) = go (exceeds m L bases curves maximum (block L permutations q)) (counter-most q)
+  counter-most (suc q) = go (exceeds s L bases curves maximum (block L permutations q)) (counter-most q)
     where
       go : (b : Bool) → count q ≤ q + 1 → count q + cond b 1 0 ≤ suc q + 1
       go true h = omega arith

@@ -8,6 +8,7 @@ ghost use lib.ListN.{length};
 ghost use Rattle.scope.specs.Lists.{every};
 ghost use Rattle.scope.specs.Permutations.{wrongPermutations, addDeltas, added, reached, reaches, exceeds, counter, pValue, isSignificant};
 ghost use Rattle.scope.specs.Calls.{wrongLengths};
+ghost use Rattle.control.specs.Settings.{shortestOf};
 ghost use Rattle.classifier_gain.specs.Lent.{lent, Curves};
 
 // A sum for each curve.
@@ -125,7 +126,7 @@ fn exceeds_maximum(
 ) -> bool
     requires { ⌜ (1 ≤ shortest .m) × (2 * shortest .m ≤ l) × (l ≤ 4096) × (length (now permutation) ≡ l) ⌝ }
     requires { ⌜ Curves k l (now deltas0) (now deltas1) (now deltas2) × (every (λ v. ltb v l) (now permutation) ≡ true) ⌝ }
-    ensures { λ r. ⌜ r ≡ exceeds (shortest .m) l (lent k (bases .0) (bases .1) (bases .2)) (lent k (now (deltas0 .entry)) (now (deltas1 .entry)) (now (deltas2 .entry))) maximum (now (permutation .entry)) ⌝ }
+    ensures { λ r. ⌜ r ≡ exceeds (shortestOf shortest) l (lent k (bases .0) (bases .1) (bases .2)) (lent k (now (deltas0 .entry)) (now (deltas1 .entry)) (now (deltas2 .entry))) maximum (now (permutation .entry)) ⌝ }
 {
     let first = shortest.m - 1;
     let stop = first + tested(shortest, l);
@@ -168,7 +169,7 @@ pub fn permutation_count(
     requires { ⌜ (1 ≤ k) × (k ≤ 3) × (1 ≤ shortest .m) × (2 * shortest .m ≤ l) ⌝ }
     requires { ⌜ wrongLengths l (lent k (now deltas0) (now deltas1) (now deltas2)) ≡ false ⌝ }
     requires { ⌜ wrongPermutations p l (now permutations) ≡ false ⌝ }
-    ensures { λ r. ⌜ r ≡ counter (shortest .m) l (lent k base0 base1 base2) (lent k (now (deltas0 .entry)) (now (deltas1 .entry)) (now (deltas2 .entry))) maximum (now (permutations .entry)) p ⌝ }
+    ensures { λ r. ⌜ r ≡ counter (shortestOf shortest) l (lent k base0 base1 base2) (lent k (now (deltas0 .entry)) (now (deltas1 .entry)) (now (deltas2 .entry))) maximum (now (permutations .entry)) p ⌝ }
 {
     let mut counted = 1;
     for q in 0..p {

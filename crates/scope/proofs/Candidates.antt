@@ -18,11 +18,11 @@ use Rattle.scope.proofs.Lists.{select-are, select-all, upward-are}
 -- ---- the closed end adds one row at most
 pub one-at-most : (s : Shortest) → oneMore s ≤ 1
 unfolding oneMore
-one-at-most s = go (s .closed)
+one-at-most s = go (s .closed) refl
   where
-    go : (b : Bool) → cond b 1 0 ≤ 1
-    go true = omega arith
-    go false = omega arith
+    go : (b : Bool) → s .closed ≡ b → oneMore s ≤ 1
+    go true e = rw e (omega arith)
+    go false e = rw e (omega arith)
 
 -- counted from the start of the segment, or of the run
 pub end-from : (s : Shortest) (start stop : ℕ) → start ≤ stop → endOf s (stop - start) ≡ endOf s stop - start

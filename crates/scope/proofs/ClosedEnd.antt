@@ -1,18 +1,17 @@
--- What the closed end adds, and that without it the rules are those that stood before. Assumes nothing.
+-- What the closed end adds, and that without it the rules are those of before. Assumes nothing.
 use mathlib.Core.Path.{_≡_, refl, ap, _∙_}
-use mathlib.Core.Bool.{Bool, true, not}
+use mathlib.Core.Bool.{Bool, not}
 use mathlib.Core.List.{List, [], _++_}
 use Prim.Native.Nat.{ℕ, suc, _+_, _-_, _*_, _≤_, _<_}
 use native.Mathlib.Nat.{add-zero, sub-zero}
 use native.Mathlib.Omega.{arith}
 use borrow.Author.Tests.{leb-true, le-leb}
-use lib.Dec.{leb}
 use Rattle.scope.specs.Lists.{upward, keep, select}
 use Rattle.scope.specs.Asked.{Shortest, oneMore, endOf}
-use Rattle.scope.specs.Refusals.{Test, test}
 use Rattle.scope.specs.Candidates.{isBarred, rangeSize, candidates}
 use Rattle.scope.specs.ClosedEnd.{off, on, AsTheRust, WithClosedEnd, NineIsNoRange}
 use Rattle.scope.proofs.Lists.{select-append}
+use Rattle.scope.proofs.Lowest.{holds}
 use Rattle.scope.proofs.Candidates.{one-at-most}
 
 pub off-end : (m stop : ℕ) → endOf (off m) stop ≡ stop
@@ -25,19 +24,6 @@ on-end m stop = refl
 
 pub on-end-less : (m n : ℕ) → endOf (on m) n - 1 ≡ n
 on-end-less m n = omega (arith, on-end m n)
-
--- ---- off
-pub as-the-rust : (m : ℕ) → AsTheRust m
-unfolding rangeSize candidates
-as-the-rust m =
-    record {
-      allowed = λ ps start stop x. (λ w. (w .low, rw (off-end m stop) at (w .high), w .free), λ (l, h, f). record { low = l; high = rw (off-end m stop) h; free = f });
-      size = λ start stop. rw (off-end m stop);
-      listed = λ ps start stop. rw (off-end m stop);
-      nine = λ start stop. rw (off-end m stop);
-      nine-counts = λ L. rw (off-end m L, sub-zero);
-      nodes = λ n. rw (off-end m n);
-    }
 
 -- ---- on: one row more at the end of the range
 module _ (m : ℕ) (ps : List ℕ) (start stop : ℕ) where
@@ -77,20 +63,27 @@ with-closed-end m =
       nodes = λ n. rw (on-end-less m n);
     }
 
--- ---- 9 and the size
-nine-test : (b c : Bool) → test b 9 ≡ test c 9 → b ≡ c
-nine-test b c e = ap holds e
-  where
-    holds : Test → Bool
-    holds (test d k) = d
+-- ---- off
+pub as-the-rust : (m : ℕ) → AsTheRust m
+unfolding rangeSize candidates
+as-the-rust m =
+    record {
+      allowed = λ ps start stop x. (λ w. (w .low, rw (off-end m stop) at (w .high), w .free), λ (l, h, f). record { low = l; high = rw (off-end m stop) h; free = f });
+      size = λ start stop. rw (off-end m stop);
+      listed = λ ps start stop. rw (off-end m stop);
+      nine = λ start stop. rw (off-end m stop);
+      nine-counts = λ L. rw (off-end m L, sub-zero);
+      nodes = λ n. rw (off-end m n);
+    }
 
+-- ---- 9 and the size
 pub nine-is-no-range : (s : Shortest) → NineIsNoRange s
 unfolding rangeSize
 nine-is-no-range s =
     record {
       exactly = λ start stop.
           let long = endOf s stop - start in (
-            λ e. let few = leb-true long (2 * s .m) (nine-test (leb long (2 * s .m)) true e) in omega arith,
+            λ e. let few = leb-true long (2 * s .m) (ap holds e) in omega arith,
             λ e. rw (le-leb long (2 * s .m) (omega arith)),
           );
     }

@@ -458,7 +458,7 @@ abbrev pub testedOf : Float → ℕ → ℕ → Tested
 testedOf alpha P counted = record { counted = counted; p = pValue counted P; significant = isSignificant (pValue counted P) alpha }
 
 abbrev pub counterOf : PermutationAsked → ℕ
-counterOf a = counter (a .shortest .m) (firstLength (a .curves)) (a .bases) (a .curves) (a .maximum) (a .permutations) (a .P)
+counterOf a = counter (a .shortest) (firstLength (a .curves)) (a .bases) (a .curves) (a .maximum) (a .permutations) (a .P)
 
 unfoldable pub permutationAnswer : PermutationAsked → Answer Tested
 permutationAnswer a = unless (firstOf (permutationTests (within a))) (testedOf (a .alpha) (a .P) (counterOf (within a)))

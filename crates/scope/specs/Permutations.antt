@@ -7,6 +7,7 @@ use lib.Ieee.{Float, le}
 use lib.ListN.{length, take, drop}
 use Rattle.scope.specs.Floats.{_⊕_, _⊘_, whole}
 use Rattle.scope.specs.Lists.{at, upward, select, every}
+use Rattle.scope.specs.Asked.{Shortest}
 use Rattle.scope.specs.Refusals.{Test, test, mostPermutations}
 
 -- ---- 11: "a permutation lacks an index of 0..L-1, holds one twice or out of range; list length not P*L, or P > 999"
@@ -55,16 +56,16 @@ reaches curves maximum (i ∷ is) sums =
     let later = reaches curves maximum is next in
     cond (reached maximum next) true later
 
--- one permutation
-unfoldable pub exceeds : ℕ → ℕ → List Float → List (List Float) → Float → List ℕ → Bool
-exceeds m L bases curves maximum permutation =
-    reaches curves maximum (take (L - 2 * m + 1) (drop (m - 1) permutation)) (added curves (take (m - 1) permutation) bases)
+-- one permutation; "Permutations still test L-2m+1 sums in both settings, and L = 2m is then admitted."
+unfoldable pub exceeds : Shortest → ℕ → List Float → List (List Float) → Float → List ℕ → Bool
+exceeds s L bases curves maximum permutation =
+    reaches curves maximum (take (L - 2 * s .m + 1) (drop (s .m - 1) permutation)) (added curves (take (s .m - 1) permutation) bases)
 
 -- "Counter starts at 1": after the first P permutations
-unfoldable pub counter : ℕ → ℕ → List Float → List (List Float) → Float → List ℕ → ℕ → ℕ
-counter m L bases curves maximum permutations zero = 1
-counter m L bases curves maximum permutations (suc p) =
-    counter m L bases curves maximum permutations p + cond (exceeds m L bases curves maximum (block L permutations p)) 1 0
+unfoldable pub counter : Shortest → ℕ → List Float → List (List Float) → Float → List ℕ → ℕ → ℕ
+counter s L bases curves maximum permutations zero = 1
+counter s L bases curves maximum permutations (suc p) =
+    counter s L bases curves maximum permutations p + cond (exceeds s L bases curves maximum (block L permutations p)) 1 0
 
 -- "p = counter/(P+1)"
 abbrev pub pValue : ℕ → ℕ → Float

@@ -49,12 +49,12 @@ p-value-requires : tie.Need-p-value-requires
 p-value-requires c κs =
     let a = within (asked (c .before .before .before .before .before .before .before .before)) in
     let few = facts (c .before .before) .few in
-    (omega (arith, c .permutation-count .ensures, counter-most (a .shortest .m) (c .before .first-length .result) (a .bases) (a .curves) (a .maximum) (a .permutations) (a .P), few), few)
+    (omega (arith, c .permutation-count .ensures, counter-most (a .shortest) (c .before .first-length .result) (a .bases) (a .curves) (a .maximum) (a .permutations) (a .P), few), few)
 
 -- what the calls answer, once nothing is refused, is the definition's answer
 tested : (a : PermutationAsked) (z l n : ℕ) (v : Float) (b : Bool)
     → z ≡ firstOf (permutationTests (within a)) → z ≡ 0 → l ≡ firstLength (within a .curves)
-    → n ≡ counter (a .shortest .m) l (within a .bases) (within a .curves) (a .maximum) (a .permutations) (a .P) → v ≡ pValue n (a .P) → b ≡ isSignificant v (a .alpha)
+    → n ≡ counter (a .shortest) l (within a .bases) (within a .curves) (a .maximum) (a .permutations) (a .P) → v ≡ pValue n (a .P) → b ≡ isSignificant v (a .alpha)
     → Permuted.Tested (record { counter = n; «p_value» = v; «is_significant» = b }) ≡ permutedOf (permutationAnswer a)
 unfolding permutationAnswer
 tested a z l n v b refuses free long counts value tests = rw (← refuses, free, tests, value, counts, long)

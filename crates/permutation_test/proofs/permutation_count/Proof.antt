@@ -10,6 +10,7 @@ use denote.Ref.{now}
 use lib.Ieee.{Float}
 use lib.ListN.{length}
 use Rattle.scope.specs.Permutations.{counter}
+use Rattle.control.specs.Settings.{shortestOf}
 use Rattle.classifier_gain.specs.Lent.{lent}
 use Rattle.permutations.specs.Marks.{allTrue}
 use Rattle.permutations.proofs.Passes.{block-within, block-length, block-inside, right-all}
@@ -20,7 +21,7 @@ use Rattle.permutation_test.proofs.permutation_count.Tie as tie
 
 abbrev Inv-loop : tie.InvT-loop
 Inv-loop shortest maximum k base0 base1 base2 deltas0 deltas1 deltas2 l p permutations counted₀ q₀ counted q =
-    (q ≤ p) × (counted ≡ counter (shortest .m) l (lent k base0 base1 base2) (lent k deltas0 deltas1 deltas2) maximum permutations q)
+    (q ≤ p) × (counted ≡ counter (shortestOf shortest) l (lent k base0 base1 base2) (lent k deltas0 deltas1 deltas2) maximum permutations q)
 
 abbrev μ-loop : tie.MeasureT-loop
 μ-loop shortest maximum k base0 base1 base2 deltas0 deltas1 deltas2 l p permutations counted₀ q₀ counted q = p - q
@@ -72,7 +73,7 @@ add-counted c =
     let s = c .before .before .before .before .before .before .before .before .before in
     let a = s .args in
     let at-loop = c .before .before .before .before .loop in
-    let most = counter-most (a .shortest .m) (a .l) (bases s) (curves s) (a .maximum) (now (a .permutations)) (at-loop .q) in
+    let most = counter-most (shortestOf (a .shortest)) (a .l) (bases s) (curves s) (a .maximum) (now (a .permutations)) (at-loop .q) in
     omega (arith, at-loop .inv .1, right s .0)
 
 loop-again : tie.Need-loop-again Inv-loop μ-loop
@@ -81,7 +82,7 @@ loop-again c =
     let a = s .args in
     let at-loop = c .before .before .before .before .loop in
     let found = rw add-sub-cancel-left at (c .before .exceeds-maximum .ensures) in
-    let next = counter-next (a .shortest .m) (a .l) (bases s) (curves s) (a .maximum) (now (a .permutations)) (at-loop .q) in
+    let next = counter-next (shortestOf (a .shortest)) (a .l) (bases s) (curves s) (a .maximum) (now (a .permutations)) (at-loop .q) in
     (omega arith, ⊎-elim (λ w. omega (arith, w .1, at-loop .inv .1, next true (sym found ∙ w .0 .taken))) (λ w. omega (arith, w .1, at-loop .inv .1, next false (sym found ∙ w .0 .left))) (c .if1 .came))
 
 returns : tie.Need-returns Inv-loop μ-loop
