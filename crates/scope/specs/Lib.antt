@@ -1,4 +1,4 @@
--- Document 01, section by section, in its order.
+-- Document 01, section by section, in its order; and beside it what document 02 adds: the closed end.
 pub mod Floats
 pub mod Lists
 pub mod Asked
