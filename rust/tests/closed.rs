@@ -1,35 +1,21 @@
 //! The closed end: what it admits, and what is refused without it.
 use haspgarnet_changeforest::lent::{self, TreeRoom};
-use haspgarnet_changeforest::{owned, Curves, Matrix, Node, Permutations, Refusal, Settings, Split};
-use std::fmt::Debug;
+use haspgarnet_changeforest::{owned, Curves, Node, Permutations, Settings};
 
-fn number<T: Debug>(answer: Result<T, Refusal>) -> u32 {
-    answer.unwrap_err().number()
-}
-
-fn column(cells: &[f64]) -> Matrix<'_> {
-    Matrix { cells, rows: cells.len(), columns: 1 }
-}
-
-fn open(m: usize) -> Settings<'static> {
-    Settings { m, ..Settings::default() }
-}
+mod common;
+use common::{column, number, place, with_m};
 
 fn closed(m: usize) -> Settings<'static> {
     Settings { m, closed: true, ..Settings::default() }
-}
-
-fn place(found: Split) -> (usize, f64) {
-    (found.split, found.gain)
 }
 
 /// M2 with the setting on.
 #[test]
 fn the_last_part_may_have_m_rows() {
     assert_eq!(owned::split_candidates(10, 0..10, &closed(5)).unwrap(), [5]);
-    assert_eq!(number(owned::split_candidates(10, 0..10, &open(5))), 9);
+    assert_eq!(number(owned::split_candidates(10, 0..10, &with_m(5))), 9);
     assert_eq!(owned::split_candidates(10, 2..10, &closed(3)).unwrap(), [5, 6, 7]);
-    assert_eq!(owned::split_candidates(10, 2..10, &open(3)).unwrap(), [5, 6]);
+    assert_eq!(owned::split_candidates(10, 2..10, &with_m(3)).unwrap(), [5, 6]);
 }
 
 #[test]
@@ -37,7 +23,7 @@ fn nine_is_given_where_the_range_is_empty() {
     assert_eq!(number(owned::split_candidates(9, 0..9, &closed(5))), 9);
     assert_eq!(number(owned::split_candidates(9, 4..4, &closed(1))), 9);
     assert_eq!(owned::split_candidates(11, 0..11, &closed(5)).unwrap(), [5, 6]);
-    assert_eq!(owned::split_candidates(11, 0..11, &open(5)).unwrap(), [5]);
+    assert_eq!(owned::split_candidates(11, 0..11, &with_m(5)).unwrap(), [5]);
     let barred = Settings { forbidden: Some(&[4, 5]), ..closed(5) };
     assert_eq!(number(owned::split_candidates(10, 0..10, &barred)), 10);
     assert_eq!(number(owned::split_candidates(10, 0..10, &closed(0))), 2);
@@ -57,9 +43,9 @@ fn candidates_ask_one_entry_more() {
 fn searches() {
     let readings = column(&[0.0, 0.0, 0.0, 8.0]);
     assert_eq!(place(owned::find_best_split(readings, 0..4, &closed(1)).unwrap()), (3, 48.0));
-    assert_eq!(place(owned::find_best_split(readings, 0..4, &open(1)).unwrap()), (2, 16.0));
+    assert_eq!(place(owned::find_best_split(readings, 0..4, &with_m(1)).unwrap()), (2, 16.0));
     assert_eq!(place(owned::find_best_split(readings, 0..4, &closed(2)).unwrap()), (2, 16.0));
-    assert_eq!(number(owned::find_best_split(readings, 0..4, &open(2))), 9);
+    assert_eq!(number(owned::find_best_split(readings, 0..4, &with_m(2))), 9);
     assert_eq!(number(owned::find_best_split(readings, 0..4, &closed(3))), 9);
 }
 
@@ -70,7 +56,7 @@ fn seeded_segments_of_two_rows() {
     let stored = owned::seeded_segments(readings, &layered(closed(1))).unwrap();
     let rows: Vec<_> = stored.iter().map(|record| (record.start, record.stop, record.split, record.gain)).collect();
     assert_eq!(rows, [(0, 2, 1, 0.0), (1, 3, 2, 0.0), (2, 4, 3, 32.0)]);
-    assert_eq!(owned::seeded_segments(readings, &layered(open(1))).unwrap(), []);
+    assert_eq!(owned::seeded_segments(readings, &layered(with_m(1))).unwrap(), []);
 }
 
 #[test]
@@ -80,7 +66,7 @@ fn the_most_nodes() {
     assert_eq!((tree.cuts, tree.nodes.len(), tree.records.len()), (vec![1, 2, 3], 7, 3));
     let last = tree.nodes[6];
     assert_eq!((last.start, last.stop, last.choice()), (3, 4, None));
-    assert_eq!(owned::tree(column(&[0.0; 4]), &everywhere(open(1))).unwrap().cuts, [1, 2]);
+    assert_eq!(owned::tree(column(&[0.0; 4]), &everywhere(with_m(1))).unwrap().cuts, [1, 2]);
     assert_eq!(owned::tree(column(&[0.0; 15]), &everywhere(closed(5))).unwrap().cuts, [5, 10]);
     for (n, m) in [(1, 1), (1, 2), (3, 2), (4, 2), (98, 7), (100, 7), (4096, 4096), (4096, 1)] {
         let most = (2 * (n / m)).max(2) - 1;
@@ -113,9 +99,9 @@ fn picks() {
     let curve = [0.0, 0.0, 1.0, 2.0];
     let pick = |guess, settings| lent::pick(&curve, 4, 0..4, guess, &settings);
     assert_eq!(place(pick(3, closed(1)).unwrap()), (3, 2.0));
-    assert_eq!(number(pick(3, open(1))), 12);
+    assert_eq!(number(pick(3, with_m(1))), 12);
     assert_eq!(place(pick(1, closed(1)).unwrap()), (3, 2.0));
-    assert_eq!(place(pick(1, open(1)).unwrap()), (2, 1.0));
+    assert_eq!(place(pick(1, with_m(1)).unwrap()), (2, 1.0));
     assert_eq!(number(pick(4, closed(1))), 12);
 }
 
@@ -124,7 +110,7 @@ fn equal_guesses_both_stay() {
     let listed = Settings { forbidden: Some(&[]), ..closed(1) };
     assert_eq!(lent::guesses(10, 4..6, &closed(1)).unwrap().rows(), [5, 5]);
     assert_eq!(lent::guesses(10, 4..6, &listed).unwrap().rows(), [5]);
-    assert_eq!(number(lent::guesses(10, 4..6, &open(1))), 9);
+    assert_eq!(number(lent::guesses(10, 4..6, &with_m(1))), 9);
     assert_eq!(lent::guesses(20, 0..20, &listed).unwrap().rows(), [5, 10, 15]);
 }
 
@@ -135,6 +121,6 @@ fn permutations_of_twice_m_values_test_one_sum() {
     let tested = |settings| lent::permutation_test(curves, both, 1.0, &Settings { alpha: 0.5, ..settings });
     let found = tested(closed(1)).unwrap();
     assert_eq!((found.counter, found.p_value, found.significant), (2, 2.0 / 3.0, false));
-    assert_eq!(number(tested(open(1))), 9);
+    assert_eq!(number(tested(with_m(1))), 9);
     assert_eq!(number(tested(closed(2))), 9);
 }

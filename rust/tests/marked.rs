@@ -1,13 +1,8 @@
 //! The marked cases of document 01, through both forms of the functions.
-use haspgarnet_changeforest::{lent, owned, Curves, Matrix, Node, Permutations, Record, Refusal, Settings, Split};
+use haspgarnet_changeforest::{lent, owned, Curves, Matrix, Node, Permutations, Record, Refusal, Settings};
 
-fn column(cells: &[f64]) -> Matrix<'_> {
-    Matrix { cells, rows: cells.len(), columns: 1 }
-}
-
-fn with_m(m: usize) -> Settings<'static> {
-    Settings { m, ..Settings::default() }
-}
+mod common;
+use common::{column, place, with_m};
 
 fn ends(record: &Record) -> (usize, usize) {
     (record.start, record.stop)
@@ -15,10 +10,6 @@ fn ends(record: &Record) -> (usize, usize) {
 
 fn choice(node: &Node) -> Option<(usize, usize, usize, f64)> {
     node.choice().map(|record| (record.start, record.stop, record.split, record.gain))
-}
-
-fn place(found: Split) -> (usize, f64) {
-    (found.split, found.gain)
 }
 
 #[test]

@@ -1,20 +1,10 @@
 //! Every refusal, and that it leaves what was lent as it was.
 use haspgarnet_changeforest::lent::{self, TreeRoom};
-use haspgarnet_changeforest::{owned, Curves, Matrix, Node, Permutations, Refusal, Settings};
-use std::fmt::Debug;
+use haspgarnet_changeforest::{owned, Curves, Matrix, Node, Permutations, Settings};
 use std::ops::Range;
 
-fn number<T: Debug>(answer: Result<T, Refusal>) -> u32 {
-    answer.unwrap_err().number()
-}
-
-fn column(cells: &[f64]) -> Matrix<'_> {
-    Matrix { cells, rows: cells.len(), columns: 1 }
-}
-
-fn with_m(m: usize) -> Settings<'static> {
-    Settings { m, ..Settings::default() }
-}
+mod common;
+use common::{column, number, with_m};
 
 fn barring(forbidden: &[usize]) -> Settings<'_> {
     Settings { forbidden: Some(forbidden), ..with_m(1) }

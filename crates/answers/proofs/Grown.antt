@@ -1,6 +1,5 @@
 -- What the tree of a deck leaves in lent memory, and the text that is written from it. Assumes nothing.
 use mathlib.Core.Path.{_≡_, refl}
-use mathlib.Core.Bool.{false}
 use mathlib.Core.List.{List, [], _∷_}
 use Prim.Native.Nat.{ℕ, zero, suc, _+_, _*_, _≤_}
 use native.Mathlib.Omega.{arith}
@@ -8,6 +7,7 @@ use borrow.Author.Tests.{ltb-false}
 use lib.Ieee.{Float, ofBits, binary64}
 use lib.ListN.{length, take, length-map}
 use lib.Seq.{take-at}
+use Rattle.scope.specs.Asked.{off}
 use Rattle.scope.specs.Lists.{holding}
 use Rattle.scope.specs.Refusals.{refused, unless}
 use Rattle.scope.specs.Grid.{Record}
@@ -37,7 +37,7 @@ use Rattle.binary_segmentation.specs.declared.tree.Counts.{Counts as Counted}
 
 -- what the call for the tree ensures, in the room that the types give, is what `Grew` says
 module _ (g : Given) (cells : List Float) (forbidden : List ℕ) (threshold : Float) (is : threshold ≡ ofBits binary64 (g .threshold)) (before after : RecordSlices) (cuts₀ cuts₁ : List ℕ) (r : Grown)
-    (left : PointsLeft (matrixHeld g cells) (record { shortest = record { m = g .m; closed = false }; threshold = threshold; forbidden = take (2 * g .pairs) forbidden; layers = [] }) r before after cuts₀ cuts₁) where
+    (left : PointsLeft (matrixHeld g cells) (record { shortest = off (g .m); threshold = threshold; forbidden = take (2 * g .pairs) forbidden; layers = [] }) r before after cuts₀ cuts₁) where
   pub grew : length (before .sums) ≡ 2112 → length (before .rows) ≡ 1527 → length (before .gains) ≡ 509 → length cuts₀ ≡ 254
       → Grew g cells forbidden (before .rows) (before .gains) cuts₀ (after .rows) (after .gains) cuts₁ r
   unfolding treeNumber treeCall
@@ -92,7 +92,7 @@ module _ (g : Given) (cells : List Float) (forbidden : List ℕ) (judged : given
     record Clean : Type 0 where
       rows : 1 ≤ g .n
       least : 1 ≤ g .m
-      nodes : mostNodes (g .n) (record { m = g .m; closed = false }) ≤ 509
+      nodes : mostNodes (g .n) (off (g .m)) ≤ 509
 
     clean : Clean
     unfolding treeNumber treeRefusal layersTotal
@@ -101,14 +101,14 @@ module _ (g : Given) (cells : List Float) (forbidden : List ℕ) (judged : given
         record {
           rows = matrix 4096 (matrixHeld g cells .cells) (g .n) (g .d) (p .0) .rows .0;
           least = not-outside 4096 (g .m) (p .1 .0) .0;
-          nodes = let h = ltb-false 509 (0 + mostNodes (g .n) (record { m = g .m; closed = false })) (p .1 .1 .1 .1 .1 .1 .1 .0) in omega arith;
+          nodes = let h = ltb-false 509 (0 + mostNodes (g .n) (off (g .m))) (p .1 .1 .1 .1 .1 .1 .1 .0) in omega arith;
         }
 
     few-records : length (recordsOf q) ≤ 509
     unfolding layersTotal
     few-records =
         let w = clean in
-        let h : length (recordsOf q) ≤ 0 + mostNodes (g .n) (record { m = g .m; closed = false }) = records-fit (matrixHeld g cells) (settingsHeld g forbidden) (w .least) (w .rows) in
+        let h : length (recordsOf q) ≤ 0 + mostNodes (g .n) (off (g .m)) = records-fit (matrixHeld g cells) (settingsHeld g forbidden) (w .least) (w .rows) in
         omega (arith, w .nodes)
 
     few-cuts : length (sheet (treeOf q)) ≤ 254

@@ -18,7 +18,7 @@ use Rattle.scope.specs.Refusals.{test, outside, mostColumns, wellPaired, wrongM
 use Rattle.scope.specs.Layers.{layersTotal}
 use Rattle.scope.specs.Tree.{mostNodes}
 use Rattle.scope.specs.Calls.{treeRefusal}
-use Rattle.scope.specs.ClosedEnd.{off}
+use Rattle.scope.specs.Asked.{off}
 use Rattle.scope.specs.Program.{Deck, deckTests, deckRefusal, wrongDeck, wrongPairs, isReading, deckMatrix, deckSettings}
 use Rattle.scope.proofs.Members.{first-of, second-of}
 use Rattle.scope.proofs.Candidates.{or-false, not-outside}
@@ -52,7 +52,7 @@ pub record GivenClean (g : Given) : Type 0 where
 pub given-clean : (g : Given) (forbidden : List ℕ) → givenRefusal g forbidden ≡ 0 → GivenClean g
 unfolding givenRefusal wrongGiven wrongHeld
 given-clean g forbidden e =
-    let p = passed (test (wrongGiven g) 1 ∷ no2 (record { m = g .m; closed = false }) ∷ no3 (ofBits binary64 (g .threshold)) ∷ test (g .wide) 4 ∷ test (wrongHeld (g .pairs) forbidden) 5 ∷ []) tt e in
+    let p = passed (test (wrongGiven g) 1 ∷ no2 (off (g .m)) ∷ no3 (ofBits binary64 (g .threshold)) ∷ test (g .wide) 4 ∷ test (wrongHeld (g .pairs) forbidden) 5 ∷ []) tt e in
     let held = or-false (ltb 64 (g .pairs)) (not (wellPaired (take (2 * g .pairs) forbidden))) (p .1 .1 .1 .1 .0) in
     record { sizes = sized (g .n) (g .d) (g .cells) (p .0); pairs = ltb-false 64 (g .pairs) (held .0) }
 

@@ -1,12 +1,11 @@
 -- What is written for a reading, from what is kept of the deck; and what makes it right.
 use mathlib.Core.Path.{_≡_}
-use mathlib.Core.Bool.{false}
 use mathlib.Core.List.{List, [], _∷_}
 use Prim.Native.Nat.{ℕ, zero, suc, _*_, _≤_}
 use lib.Ieee.{Float, ofBits, binary64}
 use lib.ListN.{length, take}
 use Rattle.scope.specs.Lists.{holding}
-use Rattle.scope.specs.Asked.{Matrix, Settings}
+use Rattle.scope.specs.Asked.{Matrix, Settings, off}
 use Rattle.scope.specs.Refusals.{unless, toldUnless}
 use Rattle.scope.specs.Text.{bytes, decimal, line}
 use Rattle.scope.specs.Tree.{Run, treeOf, recordsOf, sheet}
@@ -26,7 +25,7 @@ abbrev pub matrixHeld : Given → List Float → Matrix
 matrixHeld g cells = record { cells = take (g .n * g .d) cells; n = g .n; d = g .d }
 
 abbrev pub settingsHeld : Given → List ℕ → Settings
-settingsHeld g forbidden = record { shortest = record { m = g .m; closed = false }; threshold = ofBits binary64 (g .threshold); forbidden = take (2 * g .pairs) forbidden; layers = [] }
+settingsHeld g forbidden = record { shortest = off (g .m); threshold = ofBits binary64 (g .threshold); forbidden = take (2 * g .pairs) forbidden; layers = [] }
 
 abbrev pub runHeld : Given → List Float → List ℕ → Run
 runHeld g cells forbidden = runOf (matrixHeld g cells) (settingsHeld g forbidden)

@@ -1,7 +1,7 @@
 -- What gaps and levels come to with the closed end and without, for a reader; the other rules are in scope's ClosedEnd. Assumes nothing.
 use mathlib.Core.Path.{_≡_}
 use Prim.Native.Nat.{ℕ, suc, _-_, _/_, max}
-use Rattle.scope.specs.ClosedEnd.{off, on}
+use Rattle.scope.specs.Asked.{off, on}
 use Rattle.demand.specs.Spaced.{lastGap}
 use Rattle.demand.specs.Levels.{mostLevels}
 

@@ -1,6 +1,6 @@
 -- The enum's cases, by the definitions' answers.
-use mathlib.Core.Bool.{true}
 use Prim.Native.Nat.{ℕ}
+use Rattle.scope.specs.Asked.{on}
 use Rattle.scope.specs.Refusals.{mostRows, Answer, refused, given}
 use Rattle.scope.specs.Tree.{mostNodes}
 use Rattle.scope.specs.Calls.{Counts}
@@ -13,4 +13,4 @@ grownOf (given c) = grown.Counted (record { nodes = c .nodes; records = c .recor
 
 -- room for the nodes of any run: those of the most rows at m = 1, with the closed end
 abbrev pub nodeRoom : ℕ
-nodeRoom = mostNodes mostRows (record { m = 1; closed = true })
+nodeRoom = mostNodes mostRows (on 1)

@@ -1,11 +1,12 @@
 -- The refusals of a deck, from what is kept of it.
 use mathlib.Core.Path.{_≡_}
-use mathlib.Core.Bool.{Bool, false, not, _||_}
+use mathlib.Core.Bool.{Bool, not, _||_}
 use mathlib.Core.List.{List, [], _∷_}
 use Prim.Native.Nat.{ℕ, _*_, _≤_}
 use lib.Dec.{ltb, eqb}
 use lib.Ieee.{Float, ofBits, binary64}
 use lib.ListN.{length, take}
+use Rattle.scope.specs.Asked.{off}
 use Rattle.scope.specs.Refusals.{test, firstOf, outside, mostColumns, wellPaired, no2, no3}
 use Rattle.scope.specs.Program.{Reading, deckRefusal}
 use Rattle.deck.specs.Meaning.{Told}
@@ -20,7 +21,7 @@ wrongHeld pairs forbidden = ltb 64 pairs || not (wellPaired (take (2 * pairs) fo
 
 unfoldable pub givenRefusal : Given → List ℕ → ℕ
 givenRefusal g forbidden =
-    firstOf (test (wrongGiven g) 1 ∷ no2 (record { m = g .m; closed = false }) ∷ no3 (ofBits binary64 (g .threshold)) ∷ test (g .wide) 4 ∷ test (wrongHeld (g .pairs) forbidden) 5 ∷ [])
+    firstOf (test (wrongGiven g) 1 ∷ no2 (off (g .m)) ∷ no3 (ofBits binary64 (g .threshold)) ∷ test (g .wide) 4 ∷ test (wrongHeld (g .pairs) forbidden) 5 ∷ [])
 
 -- a number is that of whichever deck was read so, into a slice that has room
 abbrev pub Judged : Given → List ℕ → ℕ → Type 0

@@ -24,9 +24,9 @@ one-at-most s = go (s .closed) refl
     go true e = rw e (omega arith)
     go false e = rw e (omega arith)
 
--- counted from the start of the segment, or of the run
-pub end-from : (s : Shortest) (start stop : ℕ) → start ≤ stop → endOf s (stop - start) ≡ endOf s stop - start
-end-from s start stop h = omega arith
+-- 9 by the segment's length is 9 by its ends
+pub nine-from : (s : Shortest) (start stop : ℕ) → start ≤ stop → (b : Bool) → leb (endOf s (stop - start)) (2 * s .m) ≡ b → leb (endOf s stop - start) (2 * s .m) ≡ b
+nine-from s start stop h b e = let same : endOf s (stop - start) ≡ endOf s stop - start = omega arith in rw same at e
 
 -- ---- barred, by a pair
 pub or-false : (a b : Bool) → a || b ≡ false → (a ≡ false) × (b ≡ false)

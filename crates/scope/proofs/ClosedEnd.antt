@@ -1,15 +1,17 @@
 -- What the closed end adds, and that without it the rules are those of before. Assumes nothing.
 use mathlib.Core.Path.{_≡_, refl, ap, _∙_}
-use mathlib.Core.Bool.{Bool, not}
+use mathlib.Core.Logic.{_↔_}
+use mathlib.Core.Bool.{Bool, true, not}
 use mathlib.Core.List.{List, [], _++_}
 use Prim.Native.Nat.{ℕ, suc, _+_, _-_, _*_, _≤_, _<_}
 use native.Mathlib.Nat.{add-zero, sub-zero}
 use native.Mathlib.Omega.{arith}
 use borrow.Author.Tests.{leb-true, le-leb}
 use Rattle.scope.specs.Lists.{upward, keep, select}
-use Rattle.scope.specs.Asked.{Shortest, oneMore, endOf}
+use Rattle.scope.specs.Asked.{Shortest, off, on, oneMore, endOf}
+use Rattle.scope.specs.Refusals.{test, no9}
 use Rattle.scope.specs.Candidates.{isBarred, rangeSize, candidates}
-use Rattle.scope.specs.ClosedEnd.{off, on, AsTheRust, WithClosedEnd, NineIsNoRange}
+use Rattle.scope.specs.ClosedEnd.{AsTheRust, WithClosedEnd}
 use Rattle.scope.proofs.Lists.{select-append}
 use Rattle.scope.proofs.Lowest.{holds}
 use Rattle.scope.proofs.Candidates.{one-at-most}
@@ -76,14 +78,11 @@ as-the-rust m =
       nodes = λ n. rw (off-end m n);
     }
 
--- ---- 9 and the size
-pub nine-is-no-range : (s : Shortest) → NineIsNoRange s
+-- ---- 9 is given exactly where the range has no row, in either setting
+pub nine-is-no-range : (s : Shortest) (start stop : ℕ) → (no9 s start stop ≡ test true 9) ↔ (rangeSize s start stop ≡ 0)
 unfolding rangeSize
-nine-is-no-range s =
-    record {
-      exactly = λ start stop.
-          let long = endOf s stop - start in (
-            λ e. let few = leb-true long (2 * s .m) (ap holds e) in omega arith,
-            λ e. rw (le-leb long (2 * s .m) (omega arith)),
-          );
-    }
+nine-is-no-range s start stop =
+    let long = endOf s stop - start in (
+      λ e. let few = leb-true long (2 * s .m) (ap holds e) in omega arith,
+      λ e. rw (le-leb long (2 * s .m) (omega arith)),
+    )

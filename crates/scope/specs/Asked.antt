@@ -1,5 +1,5 @@
 -- What a call is asked, in small records: a later setting is one field of one of them.
-use mathlib.Core.Bool.{Bool, cond}
+use mathlib.Core.Bool.{Bool, true, false, cond}
 use mathlib.Core.List.{List}
 use Prim.Native.Nat.{ℕ, _+_}
 use lib.Ieee.{Float}
@@ -14,6 +14,13 @@ pub record Matrix : Type 0 where
 pub record Shortest : Type 0 where
   pub m : ℕ
   pub closed : Bool
+
+-- m with the setting "off by default and then as the Rust", and on
+abbrev pub off : ℕ → Shortest
+off m = record { m = m; closed = false }
+
+abbrev pub on : ℕ → Shortest
+on m = record { m = m; closed = true }
 
 -- "The range stops one short at the right end." One row more with the closed end: no other rule looks at the setting
 unfoldable pub oneMore : Shortest → ℕ

@@ -2,22 +2,16 @@
 -- either, for a reader. proofs/ClosedEnd.antt has both records for every m; what the setting does to levels and gaps is in crates/demand.
 use mathlib.Core.Path.{_≡_}
 use mathlib.Core.Logic.{_↔_}
-use mathlib.Core.Bool.{Bool, true, false, not}
+use mathlib.Core.Bool.{Bool, not}
 use mathlib.Core.List.{List, [], _++_}
 use Prim.Native.Nat.{ℕ, _+_, _-_, _*_, _/_, _≤_, _<_, max}
 use lib.Dec.{ltb, leb}
 use Rattle.scope.specs.Lists.{upward, keep, select}
-use Rattle.scope.specs.Asked.{Shortest}
+use Rattle.scope.specs.Asked.{off, on}
 use Rattle.scope.specs.Refusals.{test, no9}
 use Rattle.scope.specs.Candidates.{isBarred, rangeSize, candidates}
 use Rattle.scope.specs.Allowed.{Pair, Allowed}
 use Rattle.scope.specs.Tree.{mostNodes}
-
-abbrev pub off : ℕ → Shortest
-off m = record { m = m; closed = false }
-
-abbrev pub on : ℕ → Shortest
-on m = record { m = m; closed = true }
 
 -- no pair bars x
 abbrev pub Free : List ℕ → ℕ → Type 0
@@ -55,7 +49,3 @@ pub record WithClosedEnd (m : ℕ) : Type 0 where
   pub nine-counts : (L : ℕ) → no9 (on m) 0 L ≡ test (ltb L (2 * m)) 9
   -- "B is max(1, 2*floor(n/m)-1)"
   pub nodes : (n : ℕ) → mostNodes n (on m) ≡ max 1 (2 * (n / m) - 1)
-
--- 9 is given exactly where the range has no row, in either setting
-pub record NineIsNoRange (s : Shortest) : Type 0 where
-  pub exactly : (start stop : ℕ) → (no9 s start stop ≡ test true 9) ↔ (rangeSize s start stop ≡ 0)

@@ -10,7 +10,7 @@ use lib.ListN.{length, replicate}
 use lib.Ieee.{Float, fin, binary64, add, sub, mul, div, ofInt, ofBits, toBits, lt, le, isNan}
 use Rattle.scope.specs.Floats.{whole, _⊘_}
 use Rattle.scope.specs.Lists.{upward, select, every}
-use Rattle.scope.specs.Asked.{Matrix, Shortest, oneMore, Settings}
+use Rattle.scope.specs.Asked.{Matrix, Shortest, off, on, oneMore, Settings}
 use Rattle.scope.specs.Refusals.{Answer, refused, given, outside, wrongMatrix, isBetween, wellPaired, wrongLayers, wrongSegment, wrongSplit}
 use Rattle.scope.specs.Rounding.{nearestOf, truncation, ceiling, minimalLength, wholeRoot}
 use Rattle.scope.specs.Candidates.{isBarred, rangeSize, candidates, allBarred}
@@ -57,13 +57,6 @@ room = 64
 
 ample : Room
 ample = record { sums = room; records = room; nodes = room; cuts = room }
-
--- m rows, the end as the Rust has it, or closed
-abbrev rust : ℕ → Shortest
-rust m = record { m = m; closed = false }
-
-abbrev closed : ℕ → Shortest
-closed m = record { m = m; closed = true }
 
 -- one column of whole numbers
 column : List ℕ → Matrix
@@ -114,26 +107,26 @@ marked : List Marked
 unfolding from
 marked =
     -- M1 [0,10), m=3: 3 to 6
-    record { case = allowedRows (rust 3) 0 10 []; seen = rows (given 4) (3 ∷ 4 ∷ 5 ∷ 6 ∷ []) }
+    record { case = allowedRows (off 3) 0 10 []; seen = rows (given 4) (3 ∷ 4 ∷ 5 ∷ 6 ∷ []) }
     -- M2 m=5: refusal 9
-    ∷ record { case = allowedRows (rust 5) 0 10 []; seen = rows (refused 9) [] }
+    ∷ record { case = allowedRows (off 5) 0 10 []; seen = rows (refused 9) [] }
     -- M3 [0,9), m=4: only 4
-    ∷ record { case = allowedRows (rust 4) 0 9 []; seen = rows (given 1) (4 ∷ []) }
+    ∷ record { case = allowedRows (off 4) 0 9 []; seen = rows (given 1) (4 ∷ []) }
     -- M4 M1 with (3,5): 3, 6
-    ∷ record { case = allowedRows (rust 3) 0 10 (3 ∷ 5 ∷ []); seen = rows (given 2) (3 ∷ 6 ∷ []) }
+    ∷ record { case = allowedRows (off 3) 0 10 (3 ∷ 5 ∷ []); seen = rows (given 2) (3 ∷ 6 ∷ []) }
     -- M5 M1 with (0,9): refusal 10
-    ∷ record { case = allowedRows (rust 3) 0 10 (0 ∷ 9 ∷ []); seen = rows (refused 10) [] }
+    ∷ record { case = allowedRows (off 3) 0 10 (0 ∷ 9 ∷ []); seen = rows (refused 10) [] }
     -- M6 rows 0,0,8,0,0, m=1: gains at 2 and 3 both 256/30 rounded; 2 wins
     ∷ record { case = gainAt (0 ∷ 0 ∷ 8 ∷ 0 ∷ 0 ∷ []) 0 5 2; seen = gain (given (whole 256 ⊘ whole 30)) }
     ∷ record { case = gainAt (0 ∷ 0 ∷ 8 ∷ 0 ∷ 0 ∷ []) 0 5 3; seen = gain (given (ofBits binary64 0x4021_1111_1111_1111)) }
-    ∷ record { case = bestSplit (0 ∷ 0 ∷ 8 ∷ 0 ∷ 0 ∷ []) (rust 1); seen = split (given (record { split = 2; gain = whole 256 ⊘ whole 30 })) }
+    ∷ record { case = bestSplit (0 ∷ 0 ∷ 8 ∷ 0 ∷ 0 ∷ []) (off 1); seen = split (given (record { split = 2; gain = whole 256 ⊘ whole 30 })) }
     -- M7 the program's case
     ∷ record {
       case = sheetOf "cfg\t8\t1\t1\t4024000000000000\nrow\t0\nrow\t0\nrow\t0\nrow\t0\nrow\t8\nrow\t8\nrow\t8\nrow\t8\n";
       seen = text (bytes "cuts\t1\ncut\t4\t4060000000000000\t0\t8\nnodes\t3\n");
     }
     -- M8 five zero rows, m=1, threshold -1: cuts 1,2,3, 7 nodes
-    ∷ record { case = cutsOf (replicate 5 0) (rust 1) (fin true 1 (pos 0)); seen = tree (given (record { nodes = 7; records = 3; cuts = 3 })) (1 ∷ 2 ∷ 3 ∷ []) }
+    ∷ record { case = cutsOf (replicate 5 0) (off 1) (fin true 1 (pos 0)); seen = tree (given (record { nodes = 7; records = 3; cuts = 3 })) (1 ∷ 2 ∷ 3 ∷ []) }
     -- M9 rows 0,1,3,7, [0,4), split 2: counts 1,1,0,1 of k=2
     ∷ record {
       case = countsAt (0 ∷ 1 ∷ 3 ∷ 7 ∷ []) 0 4 2;
@@ -141,7 +134,7 @@ marked =
     }
     -- M10 deltas 1,0,-1, base 0, m=1, maximum 1, permutations 210, 012, 102: counter 3, p = 0.75
     ∷ record {
-      case = permuted (fin false 1 (pos 0) ∷ fin false 0 (pos 0) ∷ fin true 1 (pos 0) ∷ []) (fin false 0 (pos 0)) (rust 1) (fin false 1 (pos 0)) 3 (2 ∷ 1 ∷ 0 ∷ 0 ∷ 1 ∷ 2 ∷ 1 ∷ 0 ∷ 2 ∷ []);
+      case = permuted (fin false 1 (pos 0) ∷ fin false 0 (pos 0) ∷ fin true 1 (pos 0) ∷ []) (fin false 0 (pos 0)) (off 1) (fin false 1 (pos 0)) 3 (2 ∷ 1 ∷ 0 ∷ 0 ∷ 1 ∷ 2 ∷ 1 ∷ 0 ∷ 2 ∷ []);
       seen = tested (given (record { counted = 3; p = fin false 3 (negsuc 1); significant = false }));
     }
     -- M11 n=20, v=0.5: [0,10) [5,15) [10,20)
@@ -156,20 +149,20 @@ marked =
     -- for the slips: sums start at row 0, "so a late segment's bits depend on earlier rows": after 2^53 the 1 is lost, and [1,4) has no gain at 2
     ∷ record { case = gainAt (9007199254740992 ∷ 1 ∷ 0 ∷ 0 ∷ []) 1 4 2; seen = gain (given (whole 0)) }
     -- and an empty forbidden list is not the same as none: M1's rows
-    ∷ record { case = guessesOf (rust 3) 0 10 (some []); seen = guessed (given (4 ∷ 5 ∷ 6 ∷ [])) }
-    ∷ record { case = guessesOf (rust 3) 0 10 none; seen = guessed (given (5 ∷ [])) }
+    ∷ record { case = guessesOf (off 3) 0 10 (some []); seen = guessed (given (4 ∷ 5 ∷ 6 ∷ [])) }
+    ∷ record { case = guessesOf (off 3) 0 10 none; seen = guessed (given (5 ∷ [])) }
     -- M2 with the closed end: row 5
-    ∷ record { case = allowedRows (closed 5) 0 10 []; seen = rows (given 1) (5 ∷ []) }
+    ∷ record { case = allowedRows (on 5) 0 10 []; seen = rows (given 1) (5 ∷ []) }
     -- and one row fewer: refusal 9
-    ∷ record { case = allowedRows (closed 5) 0 9 []; seen = rows (refused 9) [] }
+    ∷ record { case = allowedRows (on 5) 0 9 []; seen = rows (refused 9) [] }
     -- two rows, m=1: "equal guesses both stay"; with a list, each only if above the last kept
-    ∷ record { case = guessesOf (closed 1) 4 6 none; seen = guessed (given (5 ∷ 5 ∷ [])) }
-    ∷ record { case = guessesOf (closed 1) 4 6 (some []); seen = guessed (given (5 ∷ [])) }
+    ∷ record { case = guessesOf (on 1) 4 6 none; seen = guessed (given (5 ∷ 5 ∷ [])) }
+    ∷ record { case = guessesOf (on 1) 4 6 (some []); seen = guessed (given (5 ∷ [])) }
     -- four zero rows, m=1, threshold -1: cuts 1,2,3, 7 nodes, the last gap 1
-    ∷ record { case = cutsOf (replicate 4 0) (closed 1) (fin true 1 (pos 0)); seen = tree (given (record { nodes = 7; records = 3; cuts = 3 })) (1 ∷ 2 ∷ 3 ∷ []) }
+    ∷ record { case = cutsOf (replicate 4 0) (on 1) (fin true 1 (pos 0)); seen = tree (given (record { nodes = 7; records = 3; cuts = 3 })) (1 ∷ 2 ∷ 3 ∷ []) }
     -- L = 2m tests one sum: of 1, 0 and of 0, 1 the first is 1, once
     ∷ record {
-      case = permuted (fin false 1 (pos 0) ∷ fin false 0 (pos 0) ∷ []) (fin false 0 (pos 0)) (closed 1) (fin false 1 (pos 0)) 2 (0 ∷ 1 ∷ 1 ∷ 0 ∷ []);
+      case = permuted (fin false 1 (pos 0) ∷ fin false 0 (pos 0) ∷ []) (fin false 0 (pos 0)) (on 1) (fin false 1 (pos 0)) 2 (0 ∷ 1 ∷ 1 ∷ 0 ∷ []);
       seen = tested (given (record { counted = 2; p = whole 2 ⊘ whole 3; significant = false }));
     }
     ∷ []

@@ -134,6 +134,6 @@ no8-split start stop split = test (wrongSplit start stop split) 8
 abbrev pub no8-empty : ℕ → ℕ → Test
 no8-empty start stop = test (eqb start stop) 8
 
--- ---- 9: "2*m >= stop-start", with the closed end "2*m > stop-start"; permutation counts: L from 0
+-- ---- 9: "2*m >= stop-start", with the closed end "2*m > stop-start"; permutation counts, "for 2*m >= L": [0, L)
 abbrev pub no9 : Shortest → ℕ → ℕ → Test
 no9 s start stop = test (leb (endOf s stop - start) (2 * s .m)) 9

@@ -2,22 +2,21 @@
 use mathlib.Core.Path.{_≡_, sym, ap, _∙_}
 use mathlib.Core.Bool.{Bool, true, false}
 use Prim.Native.Nat.{_-_, _*_}
-use native.Mathlib.Omega.{arith}
 use lib.Dec.{leb}
 use Rattle.scope.specs.Asked.{endOf}
 use Rattle.scope.specs.Refusals.{given}
 use Rattle.scope.specs.Grid.{Record}
-use Rattle.scope.proofs.Candidates.{end-from}
+use Rattle.scope.proofs.Candidates.{nine-from}
 use Rattle.control.specs.Settings.{shortestOf}
 use Rattle.optimizer.specs.Records.{searched, searchedOf}
 use borrow.Author.Needs.{needs}
 use Rattle.grid_search.proofs.search_segment.Statement.{statement}
 use Rattle.grid_search.proofs.search_segment.Tie as tie
 
--- 9, as the length tells it
+-- 9, as its length tells it
 short : (s : tie.Start) (b r : Bool) → let a = s .args in r ≡ leb (endOf (shortestOf (a .shortest)) (a .stop .0 - a .start .0)) (2 * a .shortest .m) → r ≡ b
     → leb (endOf (shortestOf (a .shortest)) (a .stop .0) - a .start .0) (2 * a .shortest .m) ≡ b
-short s b r e h = let a = s .args in rw (end-from (shortestOf (a .shortest)) (a .start .0) (a .stop .0) (omega (arith, s .pre .0))) at (sym e ∙ h)
+short s b r e h = let a = s .args in nine-from (shortestOf (a .shortest)) (a .start .0) (a .stop .0) (s .pre .0 .0) b (sym e ∙ h)
 
 returns : tie.Need-returns
 unfolding searched

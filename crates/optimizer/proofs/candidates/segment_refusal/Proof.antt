@@ -9,7 +9,7 @@ use denote.Ref.{now}
 use Rattle.scope.specs.Asked.{endOf}
 use Rattle.scope.specs.Refusals.{Test, no8, no9}
 use Rattle.scope.specs.Candidates.{no10}
-use Rattle.scope.proofs.Candidates.{end-from}
+use Rattle.scope.proofs.Candidates.{nine-from}
 use Rattle.control.specs.Settings.{shortestOf}
 use Rattle.control.proofs.Clean.{answers}
 use Rattle.control.proofs.Sizes.{segment}
@@ -32,10 +32,10 @@ within c = let a = c .before .before .before .args in segment (a .n) (a .start .
 returns : tie.Need-returns
 returns c = answers (tests (c .before .before .before)) (true ∷ []) (sym (c .before .wrong-segment .ensures) ∙ c .if1 .taken, tt)
 
--- 9, as the length tells it
+-- 9, as its length tells it
 short : (c : tie.Else1) (b : Bool) → let a = c .before .before .before .args in leb (endOf (shortestOf (a .shortest)) (a .stop .0 - a .start .0)) (2 * a .shortest .m) ≡ b
     → leb (endOf (shortestOf (a .shortest)) (a .stop .0) - a .start .0) (2 * a .shortest .m) ≡ b
-short c b e = let a = c .before .before .before .args in rw (end-from (shortestOf (a .shortest)) (a .start .0) (a .stop .0) (within c .0)) at e
+short c b e = let a = c .before .before .before .args in nine-from (shortestOf (a .shortest)) (a .start .0) (a .stop .0) (within c .0) b e
 
 sub-too-long-for : tie.Need-sub-too-long-for
 sub-too-long-for c = let w = within (c .before .before) in omega arith

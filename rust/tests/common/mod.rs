@@ -1,0 +1,20 @@
+//! What the files of tests share; not each uses all of it.
+#![allow(dead_code)]
+use haspgarnet_changeforest::{Matrix, Refusal, Settings, Split};
+use std::fmt::Debug;
+
+pub fn column(cells: &[f64]) -> Matrix<'_> {
+    Matrix { cells, rows: cells.len(), columns: 1 }
+}
+
+pub fn with_m(m: usize) -> Settings<'static> {
+    Settings { m, ..Settings::default() }
+}
+
+pub fn place(found: Split) -> (usize, f64) {
+    (found.split, found.gain)
+}
+
+pub fn number<T: Debug>(answer: Result<T, Refusal>) -> u32 {
+    answer.unwrap_err().number()
+}
