@@ -10,14 +10,14 @@ use Rattle.scope.specs.Floats.{lowest}
 use Rattle.scope.specs.Asked.{endOf}
 use Rattle.scope.specs.Greatest.{numeric}
 use Rattle.scope.specs.Grid.{Record}
-use Rattle.scope.specs.Tree.{Run, seedRecords, choice, uncut, cut, judged, verdict}
+use Rattle.scope.specs.Tree.{Run, storedRecords, choice, uncut, cut, judged, verdict}
 use Rattle.scope.proofs.Order.{both, lt-co}
 use Rattle.scope.proofs.Never.{never}
 use Rattle.scope.proofs.Candidates.{one-at-most}
 use Rattle.demand.specs.Reached.{ruling, isCut, CutBy}
 use Rattle.demand.specs.Offered.{Offered, Greatest}
 use Rattle.demand.proofs.Records.{Found, direct-found}
-use Rattle.demand.proofs.Choice.{Source, itself, seed, choice-source, choice-numeric, choice-above, source-offered, offered-choice}
+use Rattle.demand.proofs.Choice.{Source, itself, within, choice-source, choice-numeric, choice-above, source-offered, offered-choice}
 
 -- what is numeric and not above minus infinity is minus infinity
 only-lowest : (g : Float) → numeric g ≡ true → lt lowest g ≡ false → g ≡ lowest
@@ -28,48 +28,48 @@ only-lowest (inf false) n h = absurd (true≢false h)
 only-lowest (fin s m e) n h = absurd (true≢false h)
 
 module _ (q : Run) (start stop : ℕ) where
-  ruling-is : (o : Option Record) → choice q (seedRecords q) start stop ≡ o → ruling q start stop ≡ judged (q .threshold) o
+  ruling-is : (o : Option Record) → choice q (storedRecords q) start stop ≡ o → ruling q start stop ≡ judged (q .threshold) o
   unfolding ruling verdict
   ruling-is o h = ap (judged (q .threshold)) h
 
-  ruling-by : (c : Record) (b : Bool) → choice q (seedRecords q) start stop ≡ some c → lt (q .threshold) (c .gain) ≡ b → ruling q start stop ≡ cond b (cut c) (uncut (some c))
+  ruling-by : (c : Record) (b : Bool) → choice q (storedRecords q) start stop ≡ some c → lt (q .threshold) (c .gain) ≡ b → ruling q start stop ≡ cond b (cut c) (uncut (some c))
   ruling-by c b e t = ruling-is (some c) e ∙ rw t
 
   -- what is cut has a choice that exceeds the threshold, and is cut by it
   pub record Exceeding : Type 0 where
     pub by : Record
-    pub choice-is : choice q (seedRecords q) start stop ≡ some by
+    pub choice-is : choice q (storedRecords q) start stop ≡ some by
     pub exceeds : lt (q .threshold) (by .gain) ≡ true
     pub cut-is : ruling q start stop ≡ cut by
 
   pub cut-over : isCut (ruling q start stop) ≡ true → Exceeding
-  cut-over h = go (choice q (seedRecords q) start stop) refl
+  cut-over h = go (choice q (storedRecords q) start stop) refl
     where
-      test : (c : Record) (b : Bool) → choice q (seedRecords q) start stop ≡ some c → lt (q .threshold) (c .gain) ≡ b → Exceeding
+      test : (c : Record) (b : Bool) → choice q (storedRecords q) start stop ≡ some c → lt (q .threshold) (c .gain) ≡ b → Exceeding
       test c true e t = record { by = c; choice-is = e; exceeds = t; cut-is = ruling-by c true e t }
       test c false e t = absurd (false≢true (sym (ap isCut (ruling-by c false e t)) ∙ h))
 
-      go : (o : Option Record) → choice q (seedRecords q) start stop ≡ o → Exceeding
+      go : (o : Option Record) → choice q (storedRecords q) start stop ≡ o → Exceeding
       go none e = absurd (false≢true (sym (ap isCut (ruling-is none e)) ∙ h))
       go (some c) e = test c (lt (q .threshold) (c .gain)) e refl
 
-  over-cut : (c : Record) → choice q (seedRecords q) start stop ≡ some c → lt (q .threshold) (c .gain) ≡ true → isCut (ruling q start stop) ≡ true
+  over-cut : (c : Record) → choice q (storedRecords q) start stop ≡ some c → lt (q .threshold) (c .gain) ≡ true → isCut (ruling q start stop) ≡ true
   over-cut c e t = ap isCut (ruling-by c true e t)
 
   -- what is uncut has the choice that its leaf shows
-  pub uncut-choice : (o : Option Record) → ruling q start stop ≡ uncut o → choice q (seedRecords q) start stop ≡ o
-  uncut-choice o h = go (choice q (seedRecords q) start stop) refl
+  pub uncut-choice : (o : Option Record) → ruling q start stop ≡ uncut o → choice q (storedRecords q) start stop ≡ o
+  uncut-choice o h = go (choice q (storedRecords q) start stop) refl
     where
-      test : (c : Record) (b : Bool) → choice q (seedRecords q) start stop ≡ some c → lt (q .threshold) (c .gain) ≡ b → some c ≡ o
+      test : (c : Record) (b : Bool) → choice q (storedRecords q) start stop ≡ some c → lt (q .threshold) (c .gain) ≡ b → some c ≡ o
       test c true e t = let w = ruling-by c true e t in never (cc)
       test c false e t = let w = ruling-by c false e t in (cc)
 
-      go : (p : Option Record) → choice q (seedRecords q) start stop ≡ p → p ≡ o
+      go : (p : Option Record) → choice q (storedRecords q) start stop ≡ p → p ≡ o
       go none e = let w = ruling-is none e in (cc)
       go (some c) e = test c (lt (q .threshold) (c .gain)) e refl
 
   -- ---- the greatest
-  choice-greatest : (c : Record) → choice q (seedRecords q) start stop ≡ some c → (t : Float) → lt t (c .gain) ≡ true → Greatest q start stop (c .gain)
+  choice-greatest : (c : Record) → choice q (storedRecords q) start stop ≡ some c → (t : Float) → lt t (c .gain) ≡ true → Greatest q start stop (c .gain)
   choice-greatest c e t h =
       record {
         one = source-offered q start stop c (choice-source q start stop c e) t h;
@@ -92,7 +92,7 @@ module _ (q : Run) (start stop : ℕ) where
   pub greatest-some : (h : Float) → Offered q start stop h → numeric h ≡ true → (g : Float) × Greatest q start stop g
   greatest-some h o n = let (c, e) = offered-choice q start stop h o in go c e (lt lowest (c .gain)) refl
     where
-      go : (c : Record) → choice q (seedRecords q) start stop ≡ some c → (b : Bool) → lt lowest (c .gain) ≡ b → (g : Float) × Greatest q start stop g
+      go : (c : Record) → choice q (storedRecords q) start stop ≡ some c → (b : Bool) → lt lowest (c .gain) ≡ b → (g : Float) × Greatest q start stop g
       go c e true t = (c .gain, choice-greatest c e lowest t)
       go c e false t =
           let low = only-lowest (c .gain) (choice-numeric q start stop c e) t in
@@ -113,9 +113,9 @@ module _ (q : Run) (start stop : ℕ) where
 
   source-cuts : (r : Record) → Source q start stop r → lt (q .threshold) (r .gain) ≡ true → CutBy q start stop r
   source-cuts r (itself h) t = let f = direct-found q start stop r h in found-cuts start stop r f (omega (arith, f .start-is)) (omega (arith, f .stop-is)) t
-  source-cuts r (seed z l u) t = found-cuts (z .seed .start) (z .seed .stop) r (direct-found q (z .seed .start) (z .seed .stop) r (z .found)) l u t
+  source-cuts r (within z l u) t = found-cuts (z .segment .start) (z .segment .stop) r (direct-found q (z .segment .start) (z .segment .stop) r (z .found)) l u t
 
-  pub cut-choice : (r : Record) → ruling q start stop ≡ cut r → (choice q (seedRecords q) start stop ≡ some r) × (lt (q .threshold) (r .gain) ≡ true)
+  pub cut-choice : (r : Record) → ruling q start stop ≡ cut r → (choice q (storedRecords q) start stop ≡ some r) × (lt (q .threshold) (r .gain) ≡ true)
   cut-choice r h =
       let x = cut-over (ap isCut h) in
       let cuts : cut (x .by) ≡ cut r = sym (x .cut-is) ∙ h in

@@ -11,10 +11,11 @@ use Rattle.scope.specs.Floats.{+0}
 use Rattle.scope.specs.Lists.{every}
 use Rattle.scope.specs.Refusals.{mostRows}
 use Rattle.scope.specs.Greatest.{numeric}
-use Rattle.scope.specs.Layers.{layersTotal}
+use Rattle.scope.specs.Draws.{mostStored}
 use Rattle.scope.specs.Tree.{Run, treeOf, recordsOf, nodeCount, mostNodes}
 use Rattle.scope.specs.Asked.{Matrix, Settings}
-use Rattle.scope.specs.Calls.{runOf}
+use Rattle.scope.specs.Calls.{searchIn, runOf}
+use Rattle.scope.proofs.Draws.{segments-few}
 use Rattle.demand.specs.AllZero.{AllZero}
 use Rattle.demand.specs.Levels.{levels, mostLevels}
 use Rattle.demand.specs.Demand.{Demand}
@@ -25,11 +26,11 @@ use Rattle.demand.proofs.Sheet.{on-cuts, on-sheet, sheet-ascends, sheet
 use Rattle.demand.proofs.Nodes.{on-nodes, nodes-once}
 use Rattle.demand.proofs.Told.{nodes-told}
 use Rattle.demand.proofs.Made.{grown-grows, grown-made}
-use Rattle.demand.proofs.Room.{count-nodes, nodes-few, levels-few, cuts-few, records-few, length-seeded}
+use Rattle.demand.proofs.Room.{count-nodes, nodes-few, levels-few, cuts-few, records-few}
 use Rattle.demand.proofs.Level.{level-most}
 use Rattle.demand.proofs.Zero.{zero-gain}
 
--- where all gains are one that exceeds the threshold, and nothing is forbidden, the bounds on nodes and on levels are reached, whatever the seeds
+-- where all gains are one that exceeds the threshold, and nothing is forbidden, the bounds on nodes and on levels are reached, whatever the stored segments
 pub level-gains : (q : Run) → 1 ≤ q .shortest .m → 1 ≤ q .n → q .forbidden ≡ [] → (g : Float)
     → ((start stop x : ℕ) → start < x → x < stop → stop ≤ q .n → q .gain start stop x ≡ g)
     → lt (q .threshold) g ≡ true
@@ -80,7 +81,7 @@ demand q m n =
 pub infinity-numeric : numeric (inf false) ≡ true
 infinity-numeric = refl
 
--- all-zero readings, a threshold below 0, nothing forbidden, any layers
+-- all-zero readings, a threshold below 0, nothing forbidden, any stored segments
 pub all-zero-readings : (x : Matrix) (s : Settings) → 1 ≤ s .shortest .m → 1 ≤ x .n → x .n ≤ mostRows
     → length (x .cells) ≡ x .n * x .d
     → every (λ v. eq v +0) (x .cells) ≡ true
@@ -97,5 +98,5 @@ unfolding lt
 minus-one-below = refl
 
 -- ---- T+B records are room enough
-pub records-fit : (x : Matrix) (s : Settings) → 1 ≤ s .shortest .m → 1 ≤ x .n → length (recordsOf (runOf x s)) ≤ layersTotal (s .layers) + mostNodes (x .n) (s .shortest)
-records-fit x s least rows = omega (arith, demand (runOf x s) least rows .few-records, length-seeded (x .n) (s .layers))
+pub records-fit : (x : Matrix) (s : Settings) → 1 ≤ s .shortest .m → 1 ≤ x .n → length (recordsOf (runOf x s)) ≤ mostStored (s .source) + mostNodes (x .n) (s .shortest)
+records-fit x s least rows = omega (arith, demand (runOf x s) least rows .few-records, segments-few (searchIn x (s .shortest) (s .forbidden)) (x .n) (s .source))

@@ -17,7 +17,7 @@ use Rattle.scope.specs.Asked.{Shortest, endOf}
 use Rattle.scope.specs.Allowed.{Allowed, Ascending}
 use Rattle.scope.specs.Greatest.{FirstGreatest, kept, taken}
 use Rattle.scope.specs.Grid.{Record, blank, trial, trials}
-use Rattle.scope.specs.Tree.{Run, direct, seedRecords, inside, cut, Tree, nodeCount, mostNodes}
+use Rattle.scope.specs.Tree.{Run, direct, storedRecords, inside, cut, Tree, nodeCount, mostNodes}
 use Rattle.scope.proofs.Order.{both, lt-irrefl, lt-numeric}
 use Rattle.scope.proofs.Candidates.{one-at-most, no-pair, candidates-ascend}
 use Rattle.demand.specs.Reached.{ruling, isCut}
@@ -90,10 +90,10 @@ module _ (q : Run) (least : 1 ≤ q .shortest .m) (free : q .forbidden ≡ []) (
     cut-first r h =
         let c = cut-by q start stop r h in
         let r-is : r .gain ≡ g = c .own ∙ all (r .start) (r .stop) (r .split) (omega (arith, c .row .low)) (omega (arith, c .row .high, one-at-most (q .shortest))) (omega (arith, c .right)) in
-        let (d, p, f) = choice-of q (seedRecords q) start stop r (cut-choice q start stop r h .0) in
+        let (d, p, f) = choice-of q (storedRecords q) start stop r (cut-choice q start stop r h .0) in
         go d p r-is f
       where
-        go : (d : Record) → direct q start stop ≡ some d → r .gain ≡ g → FirstGreatest d (inside start stop (seedRecords q)) r → r .split ≡ start + q .shortest .m
+        go : (d : Record) → direct q start stop ≡ some d → r .gain ≡ g → FirstGreatest d (inside start stop (storedRecords q)) r → r .split ≡ start + q .shortest .m
         go d p e (kept w n) = rw w (first-tried d (rw w at e) (direct-first q start stop d p))
         go d p e (taken earlier later w up s n) =
             both (rw e at up) (rw (row-level (start + q .shortest .m) first-allowed) at (direct-above q start stop d p (start + q .shortest .m) first-allowed))

@@ -1,4 +1,4 @@
--- The records that growing appends change no choice: the threaded tree is the one that the seeds' records alone give, and what it appends are its
+-- The records that growing appends change no choice: the threaded tree is the one that the stored segments' records alone give, and what it appends are its
 -- segments' direct records in preorder. Assumes nothing.
 use mathlib.Core.Path.{_≡_, refl, sym, _∙_}
 use mathlib.Core.Logic.{⊎-elim}
@@ -8,7 +8,7 @@ use native.Mathlib.Omega.{arith}
 use Rattle.scope.specs.Lists.{_∈_}
 use Rattle.scope.specs.Grid.{Record}
 use Rattle.scope.specs.Layers.{one}
-use Rattle.scope.specs.Tree.{Run, direct, seedRecords, choice, Verdict, uncut, cut, verdict, Tree, Grown, grow, grown}
+use Rattle.scope.specs.Tree.{Run, direct, storedRecords, choice, Verdict, uncut, cut, verdict, Tree, Grown, grow, grown}
 use Rattle.demand.specs.Reached.{ruling}
 use Rattle.demand.specs.Grows.{Grows, asLeaf, asNode, directs}
 use Rattle.demand.proofs.Records.{direct-found, one-found}
@@ -25,13 +25,13 @@ appended ss rs ms d e = rw e (append-assoc ss ms d)
 joined : (d l l′ r r′ : List Record) → l ≡ l′ → r ≡ r′ → d ++ (l ++ r) ≡ d ++ (l′ ++ r′)
 joined d l l′ r r′ h k = cc
 
--- g is what [start, stop) grows to by the seeds' records alone, and its direct records
+-- g is what [start, stop) grows to by the stored segments' records alone, and its direct records
 record Same (q : Run) (start stop : ℕ) (g : Grown) : Type 0 where
   tree-is : Grows q start stop (g .tree)
   made-is : g .made ≡ directs q (g .tree)
 
 module _ (q : Run) where
-  same-ruling : (rs : List Record) (start stop : ℕ) → Outside start stop rs → verdict q (seedRecords q ++ rs) start stop ≡ ruling q start stop
+  same-ruling : (rs : List Record) (start stop : ℕ) → Outside start stop rs → verdict q (storedRecords q ++ rs) start stop ≡ ruling q start stop
   unfolding ruling verdict choice
   same-ruling rs start stop h = rw (inside-append, none-inside start stop rs h, append-nil)
 
@@ -49,19 +49,19 @@ module _ (q : Run) where
         (List·Memᴰ·append-cases (one (direct q start stop)) i)
 
     abbrev Grow : ℕ → Type 0
-    Grow k = (start stop : ℕ) (rs ms : List Record) → rs ≡ seedRecords q ++ ms → start < stop → stop - start ≤ k → Outside start stop ms → Same q start stop (grow q k rs start stop)
+    Grow k = (start stop : ℕ) (rs ms : List Record) → rs ≡ storedRecords q ++ ms → start < stop → stop - start ≤ k → Outside start stop ms → Same q start stop (grow q k rs start stop)
 
-    grow-cut : (k : ℕ) → Grow k → (start stop : ℕ) (rs ms : List Record) → rs ≡ seedRecords q ++ ms → stop - start ≤ suc k → Outside start stop ms
+    grow-cut : (k : ℕ) → Grow k → (start stop : ℕ) (rs ms : List Record) → rs ≡ storedRecords q ++ ms → stop - start ≤ suc k → Outside start stop ms
         → (c : Record) → ruling q start stop ≡ cut c → Same q start stop (grow q (suc k) rs start stop)
     unfolding grow directs
     grow-cut k ih start stop rs ms e le out c w =
         let d = one (direct q start stop) in
         let far = cut-far q start stop c w in
-        let more = appended (seedRecords q) rs ms d e in
+        let more = appended (storedRecords q) rs ms d e in
         let l = grow q k (rs ++ d) start (c .split) in
         let L = ih start (c .split) (rs ++ d) (ms ++ d) more (omega arith) (omega arith)
         (λ r i a b. ⊎-elim (λ j. out r j a (omega arith)) (λ j. omega (arith, one-ends start stop r j)) (List·Memᴰ·append-cases ms i)) in
-        let R = ih (c .split) stop ((rs ++ d) ++ l .made) ((ms ++ d) ++ l .made) (appended (seedRecords q) (rs ++ d) (ms ++ d) (l .made) more) (omega arith) (omega arith)
+        let R = ih (c .split) stop ((rs ++ d) ++ l .made) ((ms ++ d) ++ l .made) (appended (storedRecords q) (rs ++ d) (ms ++ d) (l .made) more) (omega arith) (omega arith)
         (λ r i a b. ⊎-elim
         (λ j. ⊎-elim (λ x. out r x (omega arith) b) (λ x. omega (arith, one-ends start stop r x)) (List·Memᴰ·append-cases ms j))
         (λ j. omega (arith, made-before start (c .split) (l .tree) (L .tree-is) (omega arith) r (rw (L .made-is) at j)))
@@ -80,7 +80,7 @@ module _ (q : Run) where
 
     grown-same : 1 ≤ q .n → Same q 0 (q .n) (grown q)
     unfolding grown
-    grown-same nonempty = grow-same (q .n) 0 (q .n) (seedRecords q) [] (sym (append-nil (seedRecords q))) nonempty (omega arith) (λ r i. absurd (List·Memᴰ·not-nil i))
+    grown-same nonempty = grow-same (q .n) 0 (q .n) (storedRecords q) [] (sym (append-nil (storedRecords q))) nonempty (omega arith) (λ r i. absurd (List·Memᴰ·not-nil i))
 
     pub grown-grows : 1 ≤ q .n → Grows q 0 (q .n) (grown q .tree)
     grown-grows nonempty = grown-same nonempty .tree-is

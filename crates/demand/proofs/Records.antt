@@ -1,4 +1,4 @@
--- Where records come from: a search's record, and the seeds'. Assumes nothing.
+-- Where records come from: a search's record, and the stored segments'. Assumes nothing.
 use mathlib.Core.Path.{_≡_, refl, sym, ap}
 use mathlib.Core.Logic.{_↔_, ⊎-elim}
 use mathlib.Core.Bool.{true, false}
@@ -13,7 +13,7 @@ use Rattle.scope.specs.Candidates.{candidates}
 use Rattle.scope.specs.Greatest.{numeric, FirstGreatest}
 use Rattle.scope.specs.Grid.{Record, best, blank, trial, trials, ofSome, search}
 use Rattle.scope.specs.Layers.{Segment, one, stored}
-use Rattle.scope.specs.Tree.{Run, direct, seedRecords}
+use Rattle.scope.specs.Tree.{Run, direct, storedRecords}
 use Rattle.scope.proofs.Order.{both}
 use Rattle.scope.proofs.Candidates.{candidates-are}
 use Rattle.scope.proofs.Greatest.{search-first, first-one, first-greatest, first-numeric}
@@ -86,20 +86,20 @@ module _ (q : Run) (start stop : ℕ) where
       go none i = absurd (List·Memᴰ·not-nil i)
       go (some x) i = ap some (sym (List·Memᴰ·eq-of-singleton i))
 
--- ---- the records of the seeds
--- r is the record of a seed
-pub record Seeded (q : Run) (ss : List Segment) (r : Record) : Type 0 where
-  pub seed : Segment
-  pub one : seed ∈ ss
-  pub found : direct q (seed .start) (seed .stop) ≡ some r
+-- ---- the records of the stored segments
+-- r is the record of one of these segments
+pub record OfStored (q : Run) (ss : List Segment) (r : Record) : Type 0 where
+  pub segment : Segment
+  pub one : segment ∈ ss
+  pub found : direct q (segment .start) (segment .stop) ≡ some r
 
 module _ (q : Run) where
-  stored-are : (ss : List Segment) (r : Record) → r ∈ stored (direct q) ss → Seeded q ss r
+  stored-are : (ss : List Segment) (r : Record) → r ∈ stored (direct q) ss → OfStored q ss r
   unfolding stored
   stored-are [] r i = absurd (List·Memᴰ·not-nil i)
   stored-are (s ∷ ss) r i =
-      ⊎-elim (λ j. record { seed = s; one = List·Memᴰ·head refl; found = one-found q (s .start) (s .stop) r j })
-      (λ j. let f = stored-are ss r j in record { seed = f .seed; one = List·Memᴰ·tail (f .one); found = f .found })
+      ⊎-elim (λ j. record { segment = s; one = List·Memᴰ·head refl; found = one-found q (s .start) (s .stop) r j })
+      (λ j. let f = stored-are ss r j in record { segment = f .segment; one = List·Memᴰ·tail (f .one); found = f .found })
       (List·Memᴰ·append-cases (one (direct q (s .start) (s .stop))) i)
 
   stored-all : (ss : List Segment) (s : Segment) (r : Record) → s ∈ ss → direct q (s .start) (s .stop) ≡ some r → r ∈ stored (direct q) ss
@@ -110,10 +110,10 @@ module _ (q : Run) where
       (λ j. Memᴰ·append-right (one (direct q (z .start) (z .stop))) (stored-all ss s r j h))
       (List·Memᴰ·cases-cons i)
 
-  pub seeds-are : (r : Record) → r ∈ seedRecords q → Seeded q (q .seeds) r
-  unfolding seedRecords
-  seeds-are r i = stored-are (q .seeds) r i
+  pub segments-are : (r : Record) → r ∈ storedRecords q → OfStored q (q .segments) r
+  unfolding storedRecords
+  segments-are r i = stored-are (q .segments) r i
 
-  pub seeds-all : (s : Segment) (r : Record) → s ∈ q .seeds → direct q (s .start) (s .stop) ≡ some r → r ∈ seedRecords q
-  unfolding seedRecords
-  seeds-all s r i h = stored-all (q .seeds) s r i h
+  pub segments-all : (s : Segment) (r : Record) → s ∈ q .segments → direct q (s .start) (s .stop) ≡ some r → r ∈ storedRecords q
+  unfolding storedRecords
+  segments-all s r i h = stored-all (q .segments) s r i h

@@ -1,19 +1,14 @@
 -- How many nodes, levels, cuts and records there are at most. Assumes nothing.
 use mathlib.Core.Path.{_≡_, refl, _∙_, ap}
 use mathlib.Core.List.{List, [], _∷_, _++_}
-use mathlib.Core.Option.{Option}
 use Prim.Native.Nat.{ℕ, zero, suc, _+_, _-_, _*_, _/_, _≤_}
 use native.Mathlib.Nat.{le-div-iff-mul-le}
-use native.Mathlib.Numerals.{add-one}
 use native.Mathlib.Omega.{arith}
-use lib.Ieee.{Float}
 use lib.ListN.{length, length-append}
 use Rattle.scope.specs.Asked.{endOf}
-use Rattle.scope.specs.Grid.{Record}
-use Rattle.scope.specs.Layers.{Segment, layerCount, layerSegments, seeded, layersTotal, one, stored}
-use Rattle.scope.specs.Tree.{Run, direct, seedRecords, Tree, leaf, node, nodes, nodeCount, cuts, sheet, mostNodes}
+use Rattle.scope.specs.Tree.{Run, direct, storedRecords, Tree, leaf, node, nodes, nodeCount, cuts, sheet, mostNodes}
 use Rattle.scope.proofs.Candidates.{one-at-most}
-use Rattle.scope.proofs.Stored.{one-few}
+use Rattle.scope.proofs.Stored.{one-few, stored-few}
 use Rattle.demand.specs.Grows.{Grows, directs}
 use Rattle.demand.specs.Spaced.{lastGap}
 use Rattle.demand.specs.Levels.{levels, mostLevels}
@@ -59,22 +54,6 @@ unfolding directs nodeCount
 directs-few q (leaf start stop o) = one-few (direct q start stop)
 directs-few q (node start stop r s t) = simp length-append (omega (arith, one-few (direct q start stop), directs-few q s, directs-few q t))
 
-stored-few : (find : ℕ → ℕ → Option Record) (ss : List Segment) → length (stored find ss) ≤ length ss
-unfolding stored
-stored-few find [] = omega arith
-stored-few find (s ∷ ss) = simp length-append (omega (arith, one-few (find (s .start) (s .stop)), stored-few find ss))
-
-pub records-few : (q : Run) (t : Tree) → length (seedRecords q ++ directs q t) ≤ length (q .seeds) + nodeCount t
-unfolding seedRecords
-records-few q t = simp length-append (omega (arith, stored-few (direct q) (q .seeds), directs-few q t))
-
--- the seeded segments number T
-length-layer : (n : ℕ) (v : Float) (k : ℕ) → length (layerSegments n v k) ≡ k
-unfolding layerSegments
-length-layer n v zero = refl
-length-layer n v (suc k) = length-append (layerSegments n v k) _ ∙ rw (length-layer n v k, add-one)
-
-pub length-seeded : (n : ℕ) (layers : List Float) → length (seeded n layers) ≡ layersTotal layers
-unfolding seeded layersTotal
-length-seeded n [] = refl
-length-seeded n (v ∷ vs) = length-append (layerSegments n v (layerCount v)) (seeded n vs) ∙ rw (length-layer n v (layerCount v), length-seeded n vs)
+pub records-few : (q : Run) (t : Tree) → length (storedRecords q ++ directs q t) ≤ length (q .segments) + nodeCount t
+unfolding storedRecords
+records-few q t = simp length-append (omega (arith, stored-few (direct q) (q .segments), directs-few q t))

@@ -11,7 +11,7 @@ use Rattle.scope.specs.Refusals.{mostRows}
 use Rattle.scope.specs.Tree.{Run}
 use Rattle.scope.specs.Calls.{gainIn}
 
--- the run of n*d readings, each +0 or -0, at a threshold below 0, with nothing forbidden; its seeds are any
+-- the run of n*d readings, each +0 or -0, at a threshold below 0, with nothing forbidden; its stored segments are any
 pub record AllZero (q : Run) (cells : List Float) (d : ℕ) : Type 0 where
   pub rows : q .n ≤ mostRows
   pub filled : length cells ≡ q .n * d

@@ -1,5 +1,5 @@
 -- The demand on the tree and its sheet of a run q, clause by clause. proofs/Demand.antt has it for every run with m and n at least 1: any threshold,
--- forbidden list, seeds and gain. Assumes nothing.
+-- forbidden list, stored segments and gain. ("Demand 3 then reads stored segments for seeded ones.") Assumes nothing.
 use mathlib.Core.Path.{_≡_}
 use mathlib.Core.Logic.{_↔_}
 use mathlib.Core.Bool.{true, false}
@@ -35,7 +35,7 @@ pub record Demand (q : Run) : Type 0 where
   -- with cuts, every gap, the run's ends included, is at least m, and the last more than m, with the closed end at least m
   pub gaps : 0 < length (sheet (treeOf q)) → Spaced (q .shortest .m) (lastGap (q .shortest)) 0 (sheet (treeOf q)) (q .n)
   -- ---- when a segment is cut
-  -- a segment is cut exactly when the greatest of the numeric gains, over its own allowed rows and those of the seeded segments inside it, exceeds the threshold
+  -- a segment is cut exactly when the greatest of the numeric gains, over its own allowed rows and those of the stored segments inside it, exceeds the threshold
   pub when : (start stop : ℕ) → (isCut (ruling q start stop) ≡ true) ↔ ((g : Float) × Greatest q start stop g × (lt (q .threshold) g ≡ true))
   -- where one of those gains is numeric, there is a greatest
   pub some-numeric : (start stop : ℕ) (h : Float) → Offered q start stop h → numeric h ≡ true → (g : Float) × Greatest q start stop g
@@ -49,7 +49,7 @@ pub record Demand (q : Run) : Type 0 where
   -- and none where there is no direct record
   pub no-direct : (rs : List Record) (start stop : ℕ) → direct q start stop ≡ none → choice q rs start stop ≡ none
   -- ---- the records made while the tree grows
-  -- they change no choice: the tree is the one that the seeds' records alone give
+  -- they change no choice: the tree is the one that the stored segments' records alone give
   pub unmoved : Grows q 0 (q .n) (treeOf q)
   -- and there is no other such tree
   pub only : (t : Tree) → Grows q 0 (q .n) t → t ≡ treeOf q
@@ -75,5 +75,5 @@ pub record Demand (q : Run) : Type 0 where
   pub most-levels : (cells : List Float) (d : ℕ) → AllZero q cells d → levels (treeOf q) ≡ mostLevels (q .n) (q .shortest)
   -- at most (B-1)/2 cuts
   pub few-cuts : length (sheet (treeOf q)) ≤ (mostNodes (q .n) (q .shortest) - 1) / 2
-  -- at most a record for each seed, and B more
-  pub few-records : length (recordsOf q) ≤ length (q .seeds) + mostNodes (q .n) (q .shortest)
+  -- at most a record for each stored segment, and B more
+  pub few-records : length (recordsOf q) ≤ length (q .segments) + mostNodes (q .n) (q .shortest)

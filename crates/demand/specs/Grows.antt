@@ -1,4 +1,4 @@
--- The tree that the seeds' records alone give, as a rule with no fuel: each choice is among the direct record and the seeds' records. Assumes nothing.
+-- The tree that the stored segments' records alone give, as a rule with no fuel: each choice is among the direct record and those. Assumes nothing.
 use mathlib.Core.Path.{_≡_}
 use mathlib.Core.List.{List, _++_}
 use mathlib.Core.Option.{Option}

@@ -9,11 +9,11 @@ use Rattle.scope.specs.Greatest.{numeric}
 use Rattle.scope.specs.Layers.{Segment}
 use Rattle.scope.specs.Tree.{Run}
 
--- the gains over the segment's own allowed rows, and over those of the seeded segments inside it
+-- the gains over the segment's own allowed rows, and over those of the stored segments inside it
 pub data Offered (q : Run) (start stop : ℕ) : Float → Type 0 where
   own : {x : ℕ} → Allowed (q .shortest) (q .forbidden) start stop x → Offered q start stop (q .gain start stop x)
-  seeded : {s : Segment} {x : ℕ}
-      → s ∈ q .seeds
+  ofStored : {s : Segment} {x : ℕ}
+      → s ∈ q .segments
       → start ≤ s .start
       → s .stop ≤ stop
       → Allowed (q .shortest) (q .forbidden) (s .start) (s .stop) x

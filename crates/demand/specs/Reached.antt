@@ -5,11 +5,11 @@ use Prim.Native.Nat.{ℕ, _≤_}
 use lib.Ieee.{lt}
 use Rattle.scope.specs.Allowed.{Allowed}
 use Rattle.scope.specs.Grid.{Record}
-use Rattle.scope.specs.Tree.{Run, Verdict, uncut, cut, seedRecords, verdict}
+use Rattle.scope.specs.Tree.{Run, Verdict, uncut, cut, storedRecords, verdict}
 
--- what becomes of [start, stop): the verdict where the stored records are the seeds' alone
+-- what becomes of [start, stop): the verdict where the records are those of the stored segments alone
 unfoldable pub ruling : Run → ℕ → ℕ → Verdict
-ruling q start stop = verdict q (seedRecords q) start stop
+ruling q start stop = verdict q (storedRecords q) start stop
 
 abbrev pub isCut : Verdict → Bool
 isCut (uncut o) = false

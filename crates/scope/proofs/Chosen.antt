@@ -11,7 +11,7 @@ use Rattle.scope.specs.Greatest.{numeric}
 use Rattle.scope.specs.Asked.{Shortest}
 use Rattle.scope.specs.Grid.{Record, best, search}
 use Rattle.scope.specs.Layers.{Segment, one, stored}
-use Rattle.scope.specs.Tree.{Run, direct, seedRecords, inside, chosen, choice, Verdict, uncut, cut, judged, verdict, Tree, leaf, node, Grown, parted, grow, grown, treeOf, recordsOf, Node, nodes, nodeCount}
+use Rattle.scope.specs.Tree.{Run, direct, storedRecords, inside, chosen, choice, Verdict, uncut, cut, judged, verdict, Tree, leaf, node, Grown, parted, grow, grown, treeOf, recordsOf, Node, nodes, nodeCount}
 use Rattle.scope.proofs.Never.{never}
 use Rattle.scope.proofs.Greatest.{best-is-first, search-first, first-numeric}
 
@@ -98,8 +98,8 @@ module _ (q : Run) where
 
   -- the stored records, and the nodes' choices
   pub records-numbers : NumericGains (recordsOf q)
-  unfolding recordsOf seedRecords grown
-  records-numbers = append-numbers (seedRecords q) (grown q .made) (stored-numbers (direct q) direct-number (q .seeds)) (grow-sound (q .n) (seedRecords q) 0 (q .n) .made)
+  unfolding recordsOf storedRecords grown
+  records-numbers = append-numbers (storedRecords q) (grown q .made) (stored-numbers (direct q) direct-number (q .segments)) (grow-sound (q .n) (storedRecords q) 0 (q .n) .made)
 
   node-numbers : (t : Tree) → Choices t → (p : ℕ) (d : Node) → d ∈ nodes p t → NumericIfSome (d .choice)
   unfolding nodes
@@ -111,4 +111,4 @@ module _ (q : Run) where
 
   pub nodes-numbers : (d : Node) → d ∈ nodes 0 (treeOf q) → NumericIfSome (d .choice)
   unfolding grown
-  nodes-numbers = node-numbers (treeOf q) (grow-sound (q .n) (seedRecords q) 0 (q .n) .choices) 0
+  nodes-numbers = node-numbers (treeOf q) (grow-sound (q .n) (storedRecords q) 0 (q .n) .choices) 0

@@ -11,6 +11,7 @@ pub mod Sums
 pub mod Guesses
 pub mod Greatest
 pub mod Stored
+pub mod Draws
 pub mod Chosen
 pub mod Signs
 pub mod Finite

@@ -10,7 +10,7 @@ use lib.Dec.{leb}
 use lib.Ieee.{Float}
 use lib.ListN.{length, getD}
 use Rattle.scope.specs.Refusals.{Test, test, firstOf, given, unless}
-use Rattle.scope.specs.Calls.{lengthTests, CandidatesAsked, candidatesTests, GainAsked, gainTests, SearchAsked, searchTests, SeededAsked, seededTests, TreeAsked, treeTests, countedTests, OrderingAsked, orderingTests, PredictAsked, predictTests, CurveAsked, curveTests, PickAsked, pickTests, GuessesAsked, guessesTests, PermutationAsked, permutationTests}
+use Rattle.scope.specs.Calls.{lengthTests, CandidatesAsked, candidatesTests, GainAsked, gainTests, SearchAsked, searchTests, StoredAsked, storedTests, TreeAsked, treeTests, countedTests, OrderingAsked, orderingTests, PredictAsked, predictTests, CurveAsked, curveTests, PickAsked, pickTests, GuessesAsked, guessesTests, PermutationAsked, permutationTests}
 use Rattle.scope.specs.Program.{Deck, deckTests}
 use Rattle.scope.proofs.Never.{never}
 use Rattle.scope.proofs.Members.{first-of, second-of, at-in}
@@ -84,7 +84,7 @@ pub record InOrder : Type 0 where
   pub candidates : (a : CandidatesAsked) → inOrder 1 (candidatesTests a) ≡ true
   pub gain : (a : GainAsked) → inOrder 1 (gainTests a) ≡ true
   pub search : (a : SearchAsked) → inOrder 1 (searchTests a) ≡ true
-  pub seeded : (a : SeededAsked) → inOrder 1 (seededTests a) ≡ true
+  pub stored : (a : StoredAsked) → inOrder 1 (storedTests a) ≡ true
   pub tree : (a : TreeAsked) → inOrder 1 (treeTests a) ≡ true
   pub counted : (a : TreeAsked) (counts : ℕ) → inOrder 1 (countedTests a counts) ≡ true
   pub ordering : (a : OrderingAsked) → inOrder 1 (orderingTests a) ≡ true
@@ -102,7 +102,7 @@ all-in-order =
       candidates = λ a. refl;
       gain = λ a. refl;
       search = λ a. refl;
-      seeded = λ a. refl;
+      stored = λ a. refl;
       tree = λ a. refl;
       counted = λ a counts. refl;
       ordering = λ a. refl;

@@ -16,11 +16,10 @@ use Rattle.scope.specs.Rounding.{wholeRoot}
 use Rattle.scope.specs.Sums.{flatSums, prefixSums}
 use Rattle.scope.specs.Grid.{Record, blank, best, trials, search}
 use Rattle.scope.specs.Greatest.{numeric}
-use Rattle.scope.specs.Layers.{seeded}
 use Rattle.scope.specs.Neighbours.{distances, countOf, predictions}
 use Rattle.scope.specs.Curves.{picked}
 use Rattle.scope.specs.Permutations.{wrongPermutations}
-use Rattle.scope.specs.Calls.{Split, splitOf, sumsOf, gainIn, gainTests, gainRefusal, gainCall, searchTests, searchRefusal, searchCall, seededTests, seededRefusal, seededOf, seededCall, treeTests, treeRefusal, runOf, treeCall, orderingTests, orderingRefusal, lastDistances, orderingCall, PredictAsked, predictTests, predictRefusal, predictionsOf, predictCall, PickAsked, pickTests, pickAnswer, Tested, PermutationAsked, within, permutationTests, testedOf, counterOf, permutationAnswer}
+use Rattle.scope.specs.Calls.{Split, splitOf, sumsOf, gainIn, gainTests, gainRefusal, gainCall, searchTests, searchRefusal, searchCall, storedTests, storedRefusal, searchIn, segmentsOf, storedOf, storedCall, treeTests, treeRefusal, runOf, treeCall, orderingTests, orderingRefusal, lastDistances, orderingCall, PredictAsked, predictTests, predictRefusal, predictionsOf, predictCall, PickAsked, pickTests, pickAnswer, Tested, PermutationAsked, within, permutationTests, testedOf, counterOf, permutationAnswer}
 use Rattle.scope.specs.Numbers.{AllNumeric, AllF64, NeverNaN}
 use Rattle.scope.proofs.Members.{at-in, every-of}
 use Rattle.scope.proofs.Every.{every-end}
@@ -176,15 +175,15 @@ p-numeric a t e =
     sym (ap (λ (w : Tested). numeric (w .p)) is) ∙ quotient-numeric binary64 (counterOf (within a)) (a .P + 1) (omega arith) (omega (arith, ltb-false mostPermutations (a .P) i))
 
 pub never-NaN : NeverNaN
-unfolding gainCall gainRefusal searchCall searchRefusal seededCall seededRefusal treeCall treeRefusal orderingCall orderingRefusal predictCall
+unfolding gainCall gainRefusal searchCall searchRefusal storedCall storedRefusal treeCall treeRefusal orderingCall orderingRefusal predictCall
 never-NaN =
     record {
       gain-sums = λ a. sums-told (a .matrix) (gainRefusal a) (sized-by mostRows (omega arith) (a .matrix) (gainTests a) (all-in-order .gain a) refl 1 (omega arith) refl);
       search-sums = λ a. sums-told (a .matrix) (searchRefusal a) (sized-by mostRows (omega arith) (a .matrix) (searchTests a) (all-in-order .search a) refl 2 (omega arith) refl);
-      seeded-sums = λ a. sums-told (a .matrix) (seededRefusal a) (sized-by mostRows (omega arith) (a .matrix) (seededTests a) (all-in-order .seeded a) refl 2 (omega arith) refl);
+      stored-sums = λ a. sums-told (a .matrix) (storedRefusal a) (sized-by mostRows (omega arith) (a .matrix) (storedTests a) (all-in-order .stored a) refl 2 (omega arith) refl);
       tree-sums = λ a. sums-told (a .matrix) (treeRefusal a) (sized-by mostRows (omega arith) (a .matrix) (treeTests a) (all-in-order .tree a) refl 3 (omega arith) refl);
       search = λ a s. answered (searchRefusal a) (best (blank (a .start) (a .stop)) (trials (gainIn (a .matrix)) (a .shortest) (a .forbidden) (a .start) (a .stop))) s (best-numeric (blank (a .start) (a .stop)) _ refl);
-      seeded = λ a r i. stored-numbers _ (search-number (gainIn (a .matrix)) (a .shortest) (a .forbidden)) (seeded (a .matrix .n) (a .layers)) r (told-in (seededRefusal a) (seededOf a) r i);
+      stored = λ a r i. stored-numbers (searchIn (a .matrix) (a .shortest) (a .forbidden)) (search-number (gainIn (a .matrix)) (a .shortest) (a .forbidden)) (segmentsOf (a .matrix) (a .shortest) (a .forbidden) (a .source)) r (told-in (storedRefusal a) (storedOf a) r i);
       tree = λ a r i. records-numbers (runOf (a .matrix) (a .settings)) r (told-in (treeRefusal a) _ r i);
       node = λ a d r i. nodes-numbers (runOf (a .matrix) (a .settings)) d (told-in (treeRefusal a) _ d i) r;
       pick = pick-numeric;

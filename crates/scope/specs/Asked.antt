@@ -1,6 +1,6 @@
 -- What a call is asked, in small records: a later setting is one field of one of them.
 use mathlib.Core.Bool.{Bool, true, false, cond}
-use mathlib.Core.List.{List}
+use mathlib.Core.List.{List, []}
 use Prim.Native.Nat.{ℕ, _+_}
 use lib.Ieee.{Float}
 
@@ -30,9 +30,19 @@ oneMore s = cond (s .closed) 1 0
 abbrev pub endOf : Shortest → ℕ → ℕ
 endOf s stop = stop + oneMore s
 
+-- what a run's stored segments come from: the layers' values; or draws, which stand flat, start then stop, and W, the most records to store
+pub record Source : Type 0 where
+  pub layers : List Float
+  pub draws : List ℕ
+  pub W : ℕ
+
+-- neither layers nor draws
+abbrev pub nothing : Source
+nothing = record { layers = []; draws = []; W = 0 }
+
 -- the settings of a run; the forbidden pairs stand flat, a then b
 pub record Settings : Type 0 where
   pub shortest : Shortest
   pub threshold : Float
   pub forbidden : List ℕ
-  pub layers : List Float
+  pub source : Source

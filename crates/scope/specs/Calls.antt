@@ -8,15 +8,16 @@ use lib.Dec.{eqb}
 use lib.Ieee.{Float}
 use lib.ListN.{length, take}
 use Rattle.scope.specs.Lists.{every}
-use Rattle.scope.specs.Asked.{Matrix, Shortest, Settings}
+use Rattle.scope.specs.Asked.{Matrix, Shortest, Source, Settings}
 use Rattle.scope.specs.Refusals.{Test, test, firstOf, Answer, refused, given, unless, toldUnless, outside, mostRows, mostNeighbours, mostCurves, mostLength, no1, no1-rows, no2, no2-relative, no3, no3-alpha, no4, no5, no6, no7, no8, no8-split, no8-empty, no9}
 use Rattle.scope.specs.Rounding.{minimalLength}
 use Rattle.scope.specs.Candidates.{candidates, rangeSize, no10}
 use Rattle.scope.specs.Sums.{prefixSums}
 use Rattle.scope.specs.Gain.{gainOf}
 use Rattle.scope.specs.Grid.{Record, blank, best, trials, search}
-use Rattle.scope.specs.Layers.{seeded, layersTotal, stored}
-use Rattle.scope.specs.Tree.{Run, treeOf, recordsOf, Node, nodes, nodeCount, sheet, mostNodes}
+use Rattle.scope.specs.Layers.{Segment, stored}
+use Rattle.scope.specs.Draws.{storedSegments, mostStored, no5-draws, no6-both, no6-most, no8-draws}
+use Rattle.scope.specs.Tree.{Run, storedRecords, treeOf, recordsOf, Node, nodes, nodeCount, sheet, mostNodes}
 use Rattle.scope.specs.Neighbours.{orders, distances, predictions}
 use Rattle.scope.specs.Curves.{curve, picked, isMember, guesses}
 use Rattle.scope.specs.Permutations.{no11, counter, pValue, isSignificant}
@@ -143,42 +144,54 @@ searchCall a =
     let found = best (blank (a .start) (a .stop)) (trials (gainIn (a .matrix)) (a .shortest) (a .forbidden) (a .start) (a .stop)) in
     record { answer = unless no (splitOf found); sums = toldUnless no (sumsOf (a .matrix)) }
 
--- ---- seeded_segments: the stored records alone, in room for sums and records. T records of room
-pub record SeededAsked : Type 0 where
+-- ---- stored_segments: the stored records alone, in room for sums and records. T records of room
+pub record StoredAsked : Type 0 where
   pub matrix : Matrix
   pub shortest : Shortest
   pub forbidden : List ℕ
-  pub layers : List Float
+  pub source : Source
   pub sums : ℕ
   pub records : ℕ
 
-abbrev pub seededTests : SeededAsked → List Test
-seededTests a =
+abbrev pub storedTests : StoredAsked → List Test
+storedTests a =
     no1 mostRows (a .matrix)
     ∷ no2 (a .shortest)
     ∷ no4 (a .matrix .cells)
     ∷ no5 (a .forbidden)
-    ∷ no6 (a .layers)
+    ∷ no5-draws (a .source)
+    ∷ no6 (a .source .layers)
+    ∷ no6-both (a .source)
+    ∷ no6-most (a .source)
     ∷ no7 (sumsRoom (a .matrix)) (a .sums)
-    ∷ no7 (layersTotal (a .layers)) (a .records)
+    ∷ no7 (mostStored (a .source)) (a .records)
+    ∷ no8-draws (a .matrix .n) (a .source)
     ∷ []
 
-unfoldable pub seededRefusal : SeededAsked → ℕ
-seededRefusal a = firstOf (seededTests a)
+unfoldable pub storedRefusal : StoredAsked → ℕ
+storedRefusal a = firstOf (storedTests a)
 
--- the run of its search: no threshold enters
-abbrev pub seededOf : SeededAsked → List Record
-seededOf a = stored (λ start stop. search (gainIn (a .matrix)) (a .shortest) (a .forbidden) start stop) (seeded (a .matrix .n) (a .layers))
+-- the search of a segment of a run, and the run's stored segments: no threshold enters
+abbrev pub searchIn : Matrix → Shortest → List ℕ → ℕ → ℕ → Option Record
+searchIn x short forbidden start stop = search (gainIn x) short forbidden start stop
 
-pub record SeededTold : Type 0 where
+abbrev pub segmentsOf : Matrix → Shortest → List ℕ → Source → List Segment
+segmentsOf x short forbidden source = storedSegments (searchIn x short forbidden) (x .n) source
+
+-- their records
+abbrev pub storedOf : StoredAsked → List Record
+storedOf a = stored (searchIn (a .matrix) (a .shortest) (a .forbidden)) (segmentsOf (a .matrix) (a .shortest) (a .forbidden) (a .source))
+
+-- the answer is how many
+pub record StoredTold : Type 0 where
   pub answer : Answer ℕ
   pub sums : List Float
   pub records : List Record
 
-unfoldable pub seededCall : SeededAsked → SeededTold
-seededCall a =
-    let no = seededRefusal a in
-    record { answer = unless no (length (seededOf a)); sums = toldUnless no (sumsOf (a .matrix)); records = toldUnless no (seededOf a) }
+unfoldable pub storedCall : StoredAsked → StoredTold
+storedCall a =
+    let no = storedRefusal a in
+    record { answer = unless no (length (storedOf a)); sums = toldUnless no (sumsOf (a .matrix)); records = toldUnless no (storedOf a) }
 
 -- ---- the tree: "Room needed: B nodes, T+B records, (B-1)/2 cuts; less is refusal 7", in the order sums, records, nodes, cuts
 
@@ -194,8 +207,9 @@ pub record TreeAsked : Type 0 where
   pub settings : Settings
   pub room : Room
 
-abbrev pub treeTests : TreeAsked → List Test
-treeTests a =
+-- up to 7
+abbrev pub treeRoomTests : TreeAsked → List Test
+treeRoomTests a =
     let s = a .settings in
     let most = mostNodes (a .matrix .n) (s .shortest) in
     no1 mostRows (a .matrix)
@@ -203,12 +217,18 @@ treeTests a =
     ∷ no3 (s .threshold)
     ∷ no4 (a .matrix .cells)
     ∷ no5 (s .forbidden)
-    ∷ no6 (s .layers)
+    ∷ no5-draws (s .source)
+    ∷ no6 (s .source .layers)
+    ∷ no6-both (s .source)
+    ∷ no6-most (s .source)
     ∷ no7 (sumsRoom (a .matrix)) (a .room .sums)
-    ∷ no7 (layersTotal (s .layers) + most) (a .room .records)
+    ∷ no7 (mostStored (s .source) + most) (a .room .records)
     ∷ no7 most (a .room .nodes)
     ∷ no7 ((most - 1) / 2) (a .room .cuts)
     ∷ []
+
+abbrev pub treeTests : TreeAsked → List Test
+treeTests a = treeRoomTests a ++ (no8-draws (a .matrix .n) (a .settings .source) ∷ [])
 
 unfoldable pub treeRefusal : TreeAsked → ℕ
 treeRefusal a = firstOf (treeTests a)
@@ -216,16 +236,25 @@ treeRefusal a = firstOf (treeTests a)
 -- the run that is asked for
 abbrev pub runOf : Matrix → Settings → Run
 runOf x s =
-    record { n = x .n; shortest = s .shortest; threshold = s .threshold; forbidden = s .forbidden; seeds = seeded (x .n) (s .layers); gain = gainIn x }
+    record {
+      n = x .n;
+      shortest = s .shortest;
+      threshold = s .threshold;
+      forbidden = s .forbidden;
+      segments = segmentsOf x (s .shortest) (s .forbidden) (s .source);
+      gain = gainIn x;
+    }
 
--- how many nodes, records and cuts
+-- how many nodes, records and cuts; "Report the number stored": how many of the records were stored before the tree was grown
 pub record Counts : Type 0 where
   pub nodes : ℕ
   pub records : ℕ
   pub cuts : ℕ
+  pub stored : ℕ
 
 abbrev pub countsOf : Run → Counts
-countsOf q = record { nodes = nodeCount (treeOf q); records = length (recordsOf q); cuts = length (sheet (treeOf q)) }
+countsOf q =
+    record { nodes = nodeCount (treeOf q); records = length (recordsOf q); cuts = length (sheet (treeOf q)); stored = length (storedRecords q) }
 
 pub record TreeTold : Type 0 where
   pub answer : Answer Counts
@@ -249,9 +278,9 @@ treeFollows a number =
 unfoldable pub treeCall : TreeAsked → TreeTold
 treeCall a = treeFollows a (treeRefusal a)
 
--- ---- the tree for a host, which lends a slice for the three counts too
+-- ---- the tree for a host, which lends a slice for the four counts too
 abbrev pub countedTests : TreeAsked → ℕ → List Test
-countedTests a counts = treeTests a ++ (no7 3 counts ∷ [])
+countedTests a counts = treeRoomTests a ++ (no7 4 counts ∷ no8-draws (a .matrix .n) (a .settings .source) ∷ [])
 
 unfoldable pub countedRefusal : TreeAsked → ℕ → ℕ
 countedRefusal a counts = firstOf (countedTests a counts)
@@ -259,10 +288,10 @@ countedRefusal a counts = firstOf (countedTests a counts)
 unfoldable pub countedCall : TreeAsked → ℕ → TreeTold
 countedCall a counts = treeFollows a (countedRefusal a counts)
 
--- what that slice is told: how many nodes, records and cuts
+-- what that slice is told: how many nodes, records and cuts, and how many stored
 abbrev pub countsTold : Answer Counts → List ℕ
 countsTold (refused k) = []
-countsTold (given c) = c .nodes ∷ c .records ∷ c .cuts ∷ []
+countsTold (given c) = c .nodes ∷ c .records ∷ c .cuts ∷ c .stored ∷ []
 
 -- ---- ordering: "Needs n*n u32 and n f64 of room; afterwards the n f64 hold the last row's distances."
 pub record OrderingAsked : Type 0 where

@@ -1,4 +1,4 @@
--- Document 01, section by section, in its order; and beside it what document 02 adds: the closed end.
+-- Document 01, section by section, in its order; and beside it what document 02 adds: the closed end and draws.
 pub mod Floats
 pub mod Lists
 pub mod Asked
@@ -12,6 +12,7 @@ pub mod Columns
 pub mod Grid
 pub mod Greatest
 pub mod Layers
+pub mod Draws
 pub mod Tree
 pub mod ClosedEnd
 pub mod Neighbours

@@ -1,28 +1,29 @@
--- Marked cases: M1 to M11, "One statement over a single table proves these of the definitions".
+-- Marked cases: M1 to M11, "One statement over a single table proves these of the definitions"; and some of what document 02 adds.
 use mathlib.Core.Path.{_≡_, refl}
 use mathlib.Core.Bool.{true, false}
 use mathlib.Core.List.{List, [], _∷_, map, flatten}
 use mathlib.Core.Option.{Option, none, some}
-use Prim.Native.Nat.{ℕ}
+use Prim.Native.Nat.{ℕ, _^_}
 use Prim.Native.String.{String}
 use lib.IntN.{pos, negsuc}
 use lib.ListN.{length, replicate}
 use lib.Ieee.{Float, fin, binary64, add, sub, mul, div, ofInt, ofBits, toBits, lt, le, isNan}
 use Rattle.scope.specs.Floats.{whole, _⊘_}
 use Rattle.scope.specs.Lists.{upward, select, every}
-use Rattle.scope.specs.Asked.{Matrix, Shortest, off, on, oneMore, Settings}
+use Rattle.scope.specs.Asked.{Matrix, Shortest, off, on, oneMore, Source, nothing, Settings}
 use Rattle.scope.specs.Refusals.{Answer, refused, given, outside, wrongMatrix, isBetween, wellPaired, wrongLayers, wrongSegment, wrongSplit}
 use Rattle.scope.specs.Rounding.{nearestOf, truncation, ceiling, minimalLength, wholeRoot}
 use Rattle.scope.specs.Candidates.{isBarred, rangeSize, candidates, allBarred}
 use Rattle.scope.specs.Sums.{flatSums, prefixSums}
 use Rattle.scope.specs.Gain.{term, terms, innerGain, gainOf}
-use Rattle.scope.specs.Grid.{better, best, trials, search}
+use Rattle.scope.specs.Grid.{Record, better, best, trials, search}
 use Rattle.scope.specs.Layers.{Segment, layerLength, layerCount, layerStep, layerStart, layerStop, layerSegments, seeded, layersTotal, stored}
-use Rattle.scope.specs.Tree.{seedRecords, inside, choice, verdict, grow, grown, recordsOf, nodeCount, nodes, cuts, sheet}
+use Rattle.scope.specs.Draws.{pairsOf, drawn, isOdd, bothGiven, anyPast}
+use Rattle.scope.specs.Tree.{storedRecords, inside, choice, verdict, grow, grown, recordsOf, nodeCount, nodes, cuts, sheet}
 use Rattle.scope.specs.Neighbours.{difference, squares, distances, insert, ordered, orderOf, others, neighbours, countOf, predictions}
 use Rattle.scope.specs.Curves.{guesses}
 use Rattle.scope.specs.Permutations.{isPermutation, wrongPermutations, addDeltas, added, reaches, exceeds, counter}
-use Rattle.scope.specs.Calls.{Split, Room, OrderingAsked, Counts, Tested, lengthAnswer, candidatesRefusal, candidatesCall, gainRefusal, gainCall, searchRefusal, searchCall, treeRefusal, treeCall, predictRefusal, predictCall, guessesAnswer, wrongLengths, permutationAnswer}
+use Rattle.scope.specs.Calls.{Split, Room, OrderingAsked, Counts, Tested, lengthAnswer, candidatesRefusal, candidatesCall, gainRefusal, gainCall, searchRefusal, searchCall, storedRefusal, storedCall, treeRefusal, treeCall, predictRefusal, predictCall, guessesAnswer, wrongLengths, permutationAnswer}
 use Rattle.scope.specs.Text.{bytes, same, parts, valueOf, number, cell, cellsOf, hexValueOf, threshold, decimalOf, hexOf, line}
 use Rattle.scope.specs.Program.{wrongDeck, wrongPairs, readLine, readLines, readInput, deckRefusal, cutLines, sheetText, program}
 
@@ -32,7 +33,8 @@ data Case : Type 0 where
   gainAt : List ℕ → (start stop split : ℕ) → Case
   bestSplit : List ℕ → Shortest → Case
   sheetOf : String → Case
-  cutsOf : List ℕ → Shortest → Float → Case
+  cutsOf : List ℕ → Shortest → Float → Source → Case
+  storedBy : List ℕ → Source → Case
   countsAt : List ℕ → ℕ → ℕ → ℕ → Case
   permuted : List Float → Float → Shortest → Float → ℕ → List ℕ → Case
   seededBy : ℕ → Float → Case
@@ -46,6 +48,7 @@ data Seen : Type 0 where
   split : Answer Split → Seen
   text : List ℕ → Seen
   tree : Answer Counts → List ℕ → Seen
+  records : Answer ℕ → List Segment → Seen
   predicted : List ℕ → List Float → Seen
   tested : Answer Tested → Seen
   segments : List Segment → Seen
@@ -62,8 +65,16 @@ ample = record { sums = room; records = room; nodes = room; cuts = room }
 column : List ℕ → Matrix
 column cells = record { cells = map whole cells; n = length cells; d = 1 }
 
+-- [start, stop)
+from : ℕ → ℕ → Segment
+from start stop = record { start = start; stop = stop }
+
+-- draws alone
+wild : List ℕ → ℕ → Source
+wild draws W = record { layers = []; draws = draws; W = W }
+
 run : Case → Seen
-unfolding column ample
+unfolding column ample from
 run (allowedRows s start stop forbidden) =
     let told = candidatesCall (record { n = 10; shortest = s; forbidden = forbidden; start = start; stop = stop; room = room }) in
     rows (told .answer) (told .rows)
@@ -71,10 +82,13 @@ run (gainAt cells start stop x) = gain (gainCall (record { matrix = column cells
 run (bestSplit cells s) =
     split (searchCall (record { matrix = column cells; shortest = s; forbidden = []; start = 0; stop = length cells; room = room }) .answer)
 run (sheetOf input) = text (program (bytes input))
-run (cutsOf cells s t) =
-    let settings : Settings = record { shortest = s; threshold = t; forbidden = []; layers = [] } in
+run (cutsOf cells s t source) =
+    let settings : Settings = record { shortest = s; threshold = t; forbidden = []; source = source } in
     let told = treeCall (record { matrix = column cells; settings = settings; room = ample }) in
     tree (told .answer) (told .cuts)
+run (storedBy cells source) =
+    let told = storedCall (record { matrix = column cells; shortest = off 1; forbidden = []; source = source; sums = room; records = room }) in
+    records (told .answer) (map (λ (r : Record). from (r .start) (r .stop)) (told .records))
 run (countsAt cells start stop x) =
     let order : OrderingAsked = record { matrix = column cells; ordering = room; distances = room } in
     predicted (map (countOf (column cells .cells) (length cells) 1 start stop x) (upward start (length cells)))
@@ -94,17 +108,13 @@ run (seededBy n v) = segments (seeded n (v ∷ []))
 run (lengthOf r n) = least (lengthAnswer r n)
 run (guessesOf s start stop forbidden) = guessed (guessesAnswer (record { n = 10; shortest = s; forbidden = forbidden; start = start; stop = stop }))
 
--- [start, stop)
-from : ℕ → ℕ → Segment
-from start stop = record { start = start; stop = stop }
-
 -- a case and what is to be seen
 record Marked : Type 0 where
   case : Case
   seen : Seen
 
 marked : List Marked
-unfolding from
+unfolding from wild
 marked =
     -- M1 [0,10), m=3: 3 to 6
     record { case = allowedRows (off 3) 0 10 []; seen = rows (given 4) (3 ∷ 4 ∷ 5 ∷ 6 ∷ []) }
@@ -126,7 +136,7 @@ marked =
       seen = text (bytes "cuts\t1\ncut\t4\t4060000000000000\t0\t8\nnodes\t3\n");
     }
     -- M8 five zero rows, m=1, threshold -1: cuts 1,2,3, 7 nodes
-    ∷ record { case = cutsOf (replicate 5 0) (off 1) (fin true 1 (pos 0)); seen = tree (given (record { nodes = 7; records = 3; cuts = 3 })) (1 ∷ 2 ∷ 3 ∷ []) }
+    ∷ record { case = cutsOf (replicate 5 0) (off 1) (fin true 1 (pos 0)) nothing; seen = tree (given (record { nodes = 7; records = 3; cuts = 3; stored = 0 })) (1 ∷ 2 ∷ 3 ∷ []) }
     -- M9 rows 0,1,3,7, [0,4), split 2: counts 1,1,0,1 of k=2
     ∷ record {
       case = countsAt (0 ∷ 1 ∷ 3 ∷ 7 ∷ []) 0 4 2;
@@ -159,15 +169,41 @@ marked =
     ∷ record { case = guessesOf (on 1) 4 6 none; seen = guessed (given (5 ∷ 5 ∷ [])) }
     ∷ record { case = guessesOf (on 1) 4 6 (some []); seen = guessed (given (5 ∷ [])) }
     -- four zero rows, m=1, threshold -1: cuts 1,2,3, 7 nodes, the last gap 1
-    ∷ record { case = cutsOf (replicate 4 0) (on 1) (fin true 1 (pos 0)); seen = tree (given (record { nodes = 7; records = 3; cuts = 3 })) (1 ∷ 2 ∷ 3 ∷ []) }
+    ∷ record { case = cutsOf (replicate 4 0) (on 1) (fin true 1 (pos 0)) nothing; seen = tree (given (record { nodes = 7; records = 3; cuts = 3; stored = 0 })) (1 ∷ 2 ∷ 3 ∷ []) }
     -- L = 2m tests one sum: of 1, 0 and of 0, 1 the first is 1, once
     ∷ record {
       case = permuted (fin false 1 (pos 0) ∷ fin false 0 (pos 0) ∷ []) (fin false 0 (pos 0)) (on 1) (fin false 1 (pos 0)) 2 (0 ∷ 1 ∷ 1 ∷ 0 ∷ []);
       seen = tested (given (record { counted = 2; p = whole 2 ⊘ whole 3; significant = false }));
     }
+    -- draws of ten rows: those passed over and those that are refused, as [3,5), are not stored; those that answer are, in order, until W stand
+    ∷ record { case = storedBy (replicate 10 0) (wild (4 ∷ 4 ∷ 6 ∷ 2 ∷ 3 ∷ 5 ∷ 2 ∷ 9 ∷ 0 ∷ 4 ∷ 0 ∷ 10 ∷ []) 2); seen = records (given 2) (from 2 9 ∷ from 0 4 ∷ []) }
+    -- or the list ends; a draw twice is stored twice
+    ∷ record { case = storedBy (replicate 10 0) (wild (0 ∷ 4 ∷ 3 ∷ 5 ∷ 0 ∷ 4 ∷ []) 9); seen = records (given 2) (from 0 4 ∷ from 0 4 ∷ []) }
+    ∷ record { case = storedBy (replicate 10 0) (wild (0 ∷ 4 ∷ []) 0); seen = records (given 0) [] }
+    -- a search whose gains are all NaN answers: 2^1023 three times
+    ∷ record { case = storedBy (replicate 3 (2 ^ 1023)) (wild (0 ∷ 3 ∷ []) 1); seen = records (given 1) (from 0 3 ∷ []) }
+    -- 5: an odd list. 6: layers and draws; W above 4,096, without draws too
+    ∷ record { case = storedBy (replicate 10 0) (wild (0 ∷ 4 ∷ 6 ∷ []) 1); seen = records (refused 5) [] }
+    ∷ record { case = storedBy (replicate 10 0) (record { layers = fin false 1 (negsuc 0) ∷ []; draws = 0 ∷ 4 ∷ []; W = 1 }); seen = records (refused 6) [] }
+    ∷ record { case = storedBy (replicate 10 0) (wild [] 4097); seen = records (refused 6) [] }
+    -- 7: T is W, before 8; without draws W asks no room
+    ∷ record { case = storedBy (replicate 10 0) (wild (0 ∷ 11 ∷ []) 65); seen = records (refused 7) [] }
+    ∷ record { case = storedBy (replicate 10 0) (wild [] 65); seen = records (given 0) [] }
+    -- 8: a stop past n, where the draw would be passed over or never reached too
+    ∷ record { case = storedBy (replicate 10 0) (wild (11 ∷ 11 ∷ []) 1); seen = records (refused 8) [] }
+    ∷ record { case = storedBy (replicate 10 0) (wild (0 ∷ 4 ∷ 0 ∷ 11 ∷ []) 1); seen = records (refused 8) [] }
+    -- a tree that a draw decides: [0,8) by itself has gain 32, at 4; [0,6) inside it 256/3, at 4; then [4,8) has 64, at 6
+    ∷ record {
+      case = cutsOf (0 ∷ 0 ∷ 0 ∷ 0 ∷ 8 ∷ 8 ∷ 0 ∷ 0 ∷ []) (off 1) (whole 50) (wild (0 ∷ 6 ∷ []) 1);
+      seen = tree (given (record { nodes = 5; records = 4; cuts = 2; stored = 1 })) (4 ∷ 6 ∷ []);
+    }
+    ∷ record {
+      case = cutsOf (0 ∷ 0 ∷ 0 ∷ 0 ∷ 8 ∷ 8 ∷ 0 ∷ 0 ∷ []) (off 1) (whole 50) nothing;
+      seen = tree (given (record { nodes = 1; records = 1; cuts = 0; stored = 0 })) [];
+    }
     ∷ []
 
--- M1 to M11, the three rows for the slips, and six for the closed end
+-- M1 to M11, the three rows for the slips, six for the closed end and thirteen for draws
 marked-right : map (λ (c : Marked). run (c .case)) marked ≡ map (λ (c : Marked). c .seen) marked
-unfolding run marked oneMore add sub mul div ofInt ofBits toBits lt le isNan upward select every outside wrongMatrix isBetween wellPaired wrongLayers wrongSegment wrongSplit allBarred wrongPermutations wrongLengths wrongDeck wrongPairs nearestOf truncation ceiling minimalLength wholeRoot isBarred rangeSize candidates flatSums prefixSums term terms innerGain gainOf better best trials search layerLength layerCount layerStep layerStart layerStop layerSegments seeded layersTotal stored seedRecords inside choice verdict grow grown recordsOf nodeCount nodes cuts sheet difference squares distances insert ordered orderOf others neighbours countOf predictions isPermutation addDeltas added reaches exceeds counter lengthAnswer candidatesRefusal candidatesCall gainRefusal gainCall searchRefusal searchCall treeRefusal treeCall predictRefusal predictCall guesses guessesAnswer permutationAnswer bytes same parts valueOf number cell cellsOf hexValueOf threshold decimalOf hexOf line readLine readLines readInput deckRefusal cutLines sheetText program flatten
+unfolding run marked oneMore add sub mul div ofInt ofBits toBits lt le isNan upward select every outside wrongMatrix isBetween wellPaired wrongLayers wrongSegment wrongSplit allBarred wrongPermutations wrongLengths wrongDeck wrongPairs nearestOf truncation ceiling minimalLength wholeRoot isBarred rangeSize candidates flatSums prefixSums term terms innerGain gainOf better best trials search layerLength layerCount layerStep layerStart layerStop layerSegments seeded layersTotal stored pairsOf drawn isOdd bothGiven anyPast storedRecords inside choice verdict grow grown recordsOf nodeCount nodes cuts sheet difference squares distances insert ordered orderOf others neighbours countOf predictions isPermutation addDeltas added reaches exceeds counter lengthAnswer candidatesRefusal candidatesCall gainRefusal gainCall searchRefusal searchCall storedRefusal storedCall treeRefusal treeCall predictRefusal predictCall guesses guessesAnswer permutationAnswer bytes same parts valueOf number cell cellsOf hexValueOf threshold decimalOf hexOf line readLine readLines readInput deckRefusal cutLines sheetText program flatten
 marked-right = refl

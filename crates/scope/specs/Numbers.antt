@@ -10,7 +10,7 @@ use Rattle.scope.specs.Refusals.{given}
 use Rattle.scope.specs.Greatest.{numeric}
 use Rattle.scope.specs.Grid.{Record}
 use Rattle.scope.specs.Tree.{Node}
-use Rattle.scope.specs.Calls.{Split, GainAsked, gainCall, SearchAsked, searchCall, SeededAsked, seededCall, TreeAsked, treeCall, OrderingAsked, orderingCall, PredictAsked, predictCall, PickAsked, pickAnswer, Tested, PermutationAsked, permutationAnswer}
+use Rattle.scope.specs.Calls.{Split, GainAsked, gainCall, SearchAsked, searchCall, StoredAsked, storedCall, TreeAsked, treeCall, OrderingAsked, orderingCall, PredictAsked, predictCall, PickAsked, pickAnswer, Tested, PermutationAsked, permutationAnswer}
 
 -- no NaN stands in the list
 abbrev pub AllNumeric : List Float → Type 0
@@ -24,13 +24,13 @@ pub record NeverNaN : Type 0 where
   -- ---- prefix sums: infinite where they overflow, and never NaN, as finite cells are added to them
   pub gain-sums : (a : GainAsked) → AllF64 (a .matrix .cells) → AllNumeric (gainCall a .sums)
   pub search-sums : (a : SearchAsked) → AllF64 (a .matrix .cells) → AllNumeric (searchCall a .sums)
-  pub seeded-sums : (a : SeededAsked) → AllF64 (a .matrix .cells) → AllNumeric (seededCall a .sums)
+  pub stored-sums : (a : StoredAsked) → AllF64 (a .matrix .cells) → AllNumeric (storedCall a .sums)
   pub tree-sums : (a : TreeAsked) → AllF64 (a .matrix .cells) → AllNumeric (treeCall a .sums)
   -- ---- gains: "NaN never does" win
   -- what a search answers
   pub search : (a : SearchAsked) (s : Split) → searchCall a .answer ≡ given s → numeric (s .gain) ≡ true
   -- each stored record
-  pub seeded : (a : SeededAsked) (r : Record) → r ∈ seededCall a .records → numeric (r .gain) ≡ true
+  pub stored : (a : StoredAsked) (r : Record) → r ∈ storedCall a .records → numeric (r .gain) ≡ true
   pub tree : (a : TreeAsked) (r : Record) → r ∈ treeCall a .records → numeric (r .gain) ≡ true
   -- each node's choice
   pub node : (a : TreeAsked) (d : Node) (r : Record) → d ∈ treeCall a .nodes → d .choice ≡ some r → numeric (r .gain) ≡ true

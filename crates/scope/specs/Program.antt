@@ -8,7 +8,7 @@ use lib.IntN.{ℤ, pos, negsuc}
 use lib.Ieee.{binary64, ofInt, ofBits, toBits}
 use lib.ListN.{length}
 use Rattle.scope.specs.Lists.{every}
-use Rattle.scope.specs.Asked.{Matrix, off, Settings}
+use Rattle.scope.specs.Asked.{Matrix, off, nothing, Settings}
 use Rattle.scope.specs.Refusals.{Test, test, firstOf, outside, mostColumns, wellPaired, no2, no3}
 use Rattle.scope.specs.Grid.{Record}
 use Rattle.scope.specs.Tree.{Run, Tree, treeOf, cuts, nodeCount}
@@ -143,7 +143,7 @@ abbrev pub deckMatrix : Deck → Matrix
 deckMatrix deck = record { cells = map (ofInt binary64) (deck .cells); n = deck .n; d = deck .d }
 
 abbrev pub deckSettings : Deck → Settings
-deckSettings deck = record { shortest = off (deck .m); threshold = ofBits binary64 (deck .threshold); forbidden = deck .forbidden; layers = [] }
+deckSettings deck = record { shortest = off (deck .m); threshold = ofBits binary64 (deck .threshold); forbidden = deck .forbidden; source = nothing }
 
 abbrev pub deckTests : Deck → List Test
 deckTests deck =

@@ -10,22 +10,22 @@ use Rattle.scope.specs.Asked.{Shortest, endOf}
 use Rattle.scope.specs.Grid.{Record, best, search}
 use Rattle.scope.specs.Layers.{Segment, one, stored}
 
--- a run: its rows, the settings, the segments that were searched beforehand, and the gain of a split x of [start, stop)
+-- a run: its rows, the settings, the stored segments, which were searched beforehand, whatever made them, and the gain of a split x of [start, stop)
 pub record Run : Type 0 where
   pub n : ℕ
   pub shortest : Shortest
   pub threshold : Float
   pub forbidden : List ℕ
-  pub seeds : List Segment
+  pub segments : List Segment
   pub gain : ℕ → ℕ → ℕ → Float
 
 -- a segment's own search
 abbrev pub direct : Run → ℕ → ℕ → Option Record
 direct q start stop = search (q .gain) (q .shortest) (q .forbidden) start stop
 
--- the records of the seeds, in their order
-unfoldable pub seedRecords : Run → List Record
-seedRecords q = stored (direct q) (q .seeds)
+-- the records of the stored segments, in their order
+unfoldable pub storedRecords : Run → List Record
+storedRecords q = stored (direct q) (q .segments)
 
 -- ---- "A segment's choice: its direct record, unless a stored record lying inside it has strictly greater gain; then the earliest with the greatest."
 
@@ -80,16 +80,16 @@ grow q (suc k) rs start stop =
     let d = one (direct q start stop) in
     parted start stop d (verdict q rs start stop) (λ c. grow q k (rs ++ d) start c) (λ c more. grow q k ((rs ++ d) ++ more) c stop)
 
--- the whole run, after the seeds' records
+-- the whole run, after the stored segments' records
 unfoldable pub grown : Run → Grown
-grown q = grow q (q .n) (seedRecords q) 0 (q .n)
+grown q = grow q (q .n) (storedRecords q) 0 (q .n)
 
 abbrev pub treeOf : Run → Tree
 treeOf q = grown q .tree
 
 -- the records afterwards: the stored ones, then the direct ones in the order made
 unfoldable pub recordsOf : Run → List Record
-recordsOf q = seedRecords q ++ grown q .made
+recordsOf q = storedRecords q ++ grown q .made
 
 -- ---- the node list, "in preorder: start, stop, significant or not, choice if any, places of both parts (0 and 0 for a leaf)"
 pub record Node : Type 0 where

@@ -1,0 +1,98 @@
+-- Draws: "Wild segments". A run's stored segments come from layers or from a lent list of draws.
+use mathlib.Core.Path.{_≡_}
+use mathlib.Core.Bool.{Bool, true, false, cond, not, _&&_}
+use mathlib.Core.List.{List, [], _∷_}
+use mathlib.Core.Option.{Option, none, some}
+use Prim.Native.Nat.{ℕ, _%_, _≤_, _<_}
+use lib.Dec.{ltb, eqb}
+use lib.Ieee.{Float}
+use lib.ListN.{length, take}
+use Rattle.scope.specs.Lists.{_∈_, select, every, isEmpty}
+use Rattle.scope.specs.Asked.{Source}
+use Rattle.scope.specs.Refusals.{Test, test}
+use Rattle.scope.specs.Allowed.{Pair}
+use Rattle.scope.specs.Grid.{Record}
+use Rattle.scope.specs.Layers.{Segment, seeded, layersTotal, stored}
+
+-- "the draws as a lent list of (start, stop) pairs": the pairs of a flat list, in its order
+unfoldable pub pairsOf : List ℕ → List Segment
+pairsOf [] = []
+pairsOf (a ∷ []) = []
+pairsOf (a ∷ b ∷ ds) = record { start = a; stop = b } ∷ pairsOf ds
+
+-- "Pairs with start >= stop are passed over"
+abbrev pub isSearched : Segment → Bool
+isSearched s = ltb (s .start) (s .stop)
+
+-- "those that answer": the search of the pair makes a record, with a number for its gain or without
+abbrev pub isFound : Option Record → Bool
+isFound none = false
+isFound (some r) = true
+
+-- so a draw that is reached leaves a record unless it is passed over or its search refuses
+abbrev pub drawRecord : (ℕ → ℕ → Option Record) → Segment → Option Record
+drawRecord find s = cond (isSearched s) (find (s .start) (s .stop)) none
+
+-- "the others are searched in order, and those that answer are stored, until W records stand or the list ends": the first W of the pairs with
+-- start < stop whose search answers
+unfoldable pub drawn : (ℕ → ℕ → Option Record) → List ℕ → ℕ → List Segment
+drawn find draws W = take W (select (λ s. isSearched s && isFound (find (s .start) (s .stop))) (pairsOf draws))
+
+-- ---- "A run has layers or draws, not both": what its draws give if it has any, else what its layers give
+abbrev pub byDraws : {A : Type 0} → List ℕ → A → A → A
+byDraws [] layered wild = layered
+byDraws (d ∷ ds) layered wild = wild
+
+-- the stored segments of a run of n rows, find being the search of a segment
+abbrev pub storedSegments : (ℕ → ℕ → Option Record) → ℕ → Source → List Segment
+storedSegments find n s = byDraws (s .draws) (seeded n (s .layers)) (drawn find (s .draws) (s .W))
+
+-- "T is W"; without draws "the layers' counts summed"
+abbrev pub mostStored : Source → ℕ
+mostStored s = byDraws (s .draws) (layersTotal (s .layers)) (s .W)
+
+-- ---- 5 "also for an odd draw list"
+unfoldable pub isOdd : List ℕ → Bool
+isOdd draws = eqb (length draws % 2) 1
+
+abbrev pub no5-draws : Source → Test
+no5-draws s = test (isOdd (s .draws)) 5
+
+-- ---- 6 "also for layers and draws both non-empty or W above 4,096"
+abbrev pub mostWild : ℕ
+mostWild = 4096
+
+unfoldable pub bothGiven : List Float → List ℕ → Bool
+bothGiven layers draws = not (isEmpty layers) && not (isEmpty draws)
+
+abbrev pub no6-both : Source → Test
+no6-both s = test (bothGiven (s .layers) (s .draws)) 6
+
+abbrev pub no6-most : Source → Test
+no6-most s = test (ltb mostWild (s .W)) 6
+
+-- ---- 8 "also for a draw with stop > n": any of the list's, one that is passed over or never reached too
+abbrev pub isPast : ℕ → Segment → Bool
+isPast n s = ltb n (s .stop)
+
+unfoldable pub anyPast : ℕ → List ℕ → Bool
+anyPast n draws = not (every (λ s. not (isPast n s)) (pairsOf draws))
+
+abbrev pub no8-draws : ℕ → Source → Test
+no8-draws n s = test (anyPast n (s .draws)) 8
+
+-- ---- the stored draws, in a reader's words. proofs/Draws.antt has this for every search, list and W
+pub record StoredDraws (find : ℕ → ℕ → Option Record) (draws : List ℕ) (W : ℕ) : Type 0 where
+  -- each is a pair of the list with start < stop, and its search answers
+  pub are : (s : Segment) → s ∈ drawn find draws W → Pair (s .start) (s .stop) draws × (s .start < s .stop) × ((r : Record) × (find (s .start) (s .stop) ≡ some r))
+  -- each leaves its record: so the number stored is theirs
+  pub counted : length (stored find (drawn find draws W)) ≡ length (drawn find draws W)
+  -- W at most
+  pub few : length (drawn find draws W) ≤ W
+  -- where fewer than W stand, the list has ended: every such pair is among them
+  pub all : length (drawn find draws W) < W
+      → (a b : ℕ) (r : Record)
+      → Pair a b draws
+      → a < b
+      → find a b ≡ some r
+      → record { start = a; stop = b } ∈ drawn find draws W
