@@ -7,13 +7,13 @@ use borrow.Author.Tests.{ltb-false}
 use lib.Ieee.{Float, ofBits, binary64}
 use lib.ListN.{length, take, length-map}
 use lib.Seq.{take-at}
-use Rattle.scope.specs.Asked.{off}
+use Rattle.scope.specs.Asked.{off, nothing}
 use Rattle.scope.specs.Lists.{holding}
 use Rattle.scope.specs.Refusals.{refused, unless}
 use Rattle.scope.specs.Grid.{Record}
 use Rattle.scope.specs.Layers.{seeded, layersTotal, stored}
 use Rattle.scope.specs.Text.{bytes, decimal, line}
-use Rattle.scope.specs.Tree.{Run, Tree, seedRecords, treeOf, recordsOf, nodeCount, cuts, sheet, mostNodes}
+use Rattle.scope.specs.Tree.{Run, Tree, storedRecords, treeOf, recordsOf, nodeCount, cuts, sheet, mostNodes}
 use Rattle.scope.specs.Calls.{countsOf, treeTests, treeRefusal, treeCall}
 use Rattle.scope.specs.Program.{sheetText, judgedText}
 use Rattle.scope.proofs.Never.{never}
@@ -37,7 +37,7 @@ use Rattle.binary_segmentation.specs.declared.tree.Counts.{Counts as Counted}
 
 -- what the call for the tree ensures, in the room that the types give, is what `Grew` says
 module _ (g : Given) (cells : List Float) (forbidden : List ℕ) (threshold : Float) (is : threshold ≡ ofBits binary64 (g .threshold)) (before after : RecordSlices) (cuts₀ cuts₁ : List ℕ) (r : Grown)
-    (left : PointsLeft (matrixHeld g cells) (record { shortest = off (g .m); threshold = threshold; forbidden = take (2 * g .pairs) forbidden; layers = [] }) r before after cuts₀ cuts₁) where
+    (left : PointsLeft (matrixHeld g cells) (record { shortest = off (g .m); threshold = threshold; forbidden = take (2 * g .pairs) forbidden; source = nothing }) r before after cuts₀ cuts₁) where
   pub grew : length (before .sums) ≡ 2112 → length (before .rows) ≡ 1527 → length (before .gains) ≡ 509 → length cuts₀ ≡ 254
       → Grew g cells forbidden (before .rows) (before .gains) cuts₀ (after .rows) (after .gains) cuts₁ r
   unfolding treeNumber treeCall
@@ -72,19 +72,19 @@ module _ (g : Given) (cells : List Float) (forbidden : List ℕ) (judged : given
       go zero h = never (cc)
       go (suc j) h = let e : k ≡ suc j = cc in rw e
 
-  no-seeds : seedRecords q ≡ []
-  unfolding seedRecords seeded stored
-  no-seeds = refl
+  no-segments : storedRecords q ≡ []
+  unfolding storedRecords seeded stored
+  no-segments = refl
 
   -- counts are those of the tree, which is not refused
   record Free (counts : Counted) : Type 0 where
     free : treeNumber g cells forbidden ≡ 0
     counts-are : counts ≡ record { nodes = nodeCount (treeOf q); records = length (recordsOf q); cuts = length (sheet (treeOf q)) }
 
-  counted : (counts : Counted) → grown.Counted counts ≡ grownOf (unless (treeNumber g cells forbidden) (countsOf q)) → Free counts
-  counted counts h = go (treeNumber g cells forbidden) refl h
+  counted : (counts : Counted) (stored : ℕ) → grown.Counted counts stored ≡ grownOf (unless (treeNumber g cells forbidden) (countsOf q)) → Free counts
+  counted counts stored h = go (treeNumber g cells forbidden) refl h
     where
-      go : (j : ℕ) → treeNumber g cells forbidden ≡ j → grown.Counted counts ≡ grownOf (unless j (countsOf q)) → Free counts
+      go : (j : ℕ) → treeNumber g cells forbidden ≡ j → grown.Counted counts stored ≡ grownOf (unless j (countsOf q)) → Free counts
       go zero e h = record { free = e; counts-are = cc }
       go (suc j) e h = never (cc)
 
@@ -101,7 +101,7 @@ module _ (g : Given) (cells : List Float) (forbidden : List ℕ) (judged : given
         record {
           rows = matrix 4096 (matrixHeld g cells .cells) (g .n) (g .d) (p .0) .rows .0;
           least = not-outside 4096 (g .m) (p .1 .0) .0;
-          nodes = let h = ltb-false 509 (0 + mostNodes (g .n) (off (g .m))) (p .1 .1 .1 .1 .1 .1 .1 .0) in omega arith;
+          nodes = let h = ltb-false 509 (0 + mostNodes (g .n) (off (g .m))) (p .1 .1 .1 .1 .1 .1 .1 .1 .1 .1 .0) in omega arith;
         }
 
     few-records : length (recordsOf q) ≤ 509
@@ -116,7 +116,7 @@ module _ (g : Given) (cells : List Float) (forbidden : List ℕ) (judged : given
 
     sheet-text : sheetOf (nodeCount (treeOf q)) (recordsOf q) (sheet (treeOf q)) ≡ givenText g cells forbidden
     unfolding givenText sheetText
-    sheet-text = let w = clean in rw (judged, free, lines-are q (w .least) (w .rows) no-seeds, sheet-long (treeOf q))
+    sheet-text = let w = clean in rw (judged, free, lines-are q (w .least) (w .rows) no-segments, sheet-long (treeOf q))
 
   -- there is room for the sheet, and it is the deck's text
   pub record Sheeted (rows′ : List ℕ) (gains′ : List Float) (cuts′ : List ℕ) (counts : Counted) : Type 0 where
@@ -124,11 +124,11 @@ module _ (g : Given) (cells : List Float) (forbidden : List ℕ) (judged : given
     pub few-records : counts .records ≤ 509
     pub text : sheetOf (counts .nodes) (recordsIn rows′ gains′ (counts .records)) (take (counts .cuts) cuts′) ≡ givenText g cells forbidden
 
-  pub sheeted : (rows : List ℕ) (gains : List Float) (cuts rows′ : List ℕ) (gains′ : List Float) (cuts′ : List ℕ) (counts : Counted)
-      → Grew g cells forbidden rows gains cuts rows′ gains′ cuts′ (grown.Counted counts)
+  pub sheeted : (rows : List ℕ) (gains : List Float) (cuts rows′ : List ℕ) (gains′ : List Float) (cuts′ : List ℕ) (counts : Counted) (stored : ℕ)
+      → Grew g cells forbidden rows gains cuts rows′ gains′ cuts′ (grown.Counted counts stored)
       → Sheeted rows′ gains′ cuts′ counts
-  sheeted rows gains cuts rows′ gains′ cuts′ counts h =
-      let f = counted counts (h .answer-is) in
+  sheeted rows gains cuts rows′ gains′ cuts′ counts stored h =
+      let f = counted counts stored (h .answer-is) in
       let rs = recordsOf q in
       let xs = sheet (treeOf q) in
       let a : rows′ ≡ holding (flatRows rs) rows = rw (f .free) at (h .rows-are) in

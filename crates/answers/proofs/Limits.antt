@@ -16,6 +16,7 @@ use Rattle.scope.specs.Floats.{isFinite}
 use Rattle.scope.specs.Lists.{every}
 use Rattle.scope.specs.Refusals.{test, outside, mostColumns, wellPaired, wrongMatrix, wrongLayers, no2, no3}
 use Rattle.scope.specs.Layers.{layersTotal}
+use Rattle.scope.specs.Draws.{isOdd, bothGiven, anyPast, pairsOf}
 use Rattle.scope.specs.Tree.{mostNodes}
 use Rattle.scope.specs.Calls.{treeRefusal}
 use Rattle.scope.specs.Asked.{off}
@@ -117,7 +118,7 @@ module _ (deck : Deck) (clean : DeckClean deck) where
 
   -- what the deck's own limits leave, the tree takes
   pub tree-clean : treeRefusal (record { matrix = deckMatrix deck; settings = deckSettings deck; room = lent }) ≡ 0
-  unfolding treeRefusal wrongLayers layersTotal every
+  unfolding treeRefusal wrongLayers layersTotal every isOdd bothGiven anyPast pairsOf
   tree-clean =
       let nodes = few-nodes (deck .n) (deck .m) (clean .sizes .rows .1) in
       rw (

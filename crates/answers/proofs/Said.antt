@@ -10,7 +10,7 @@ use lib.ListN.{length, take, drop, length-map}
 use lib.Seq.{take-all, take-at}
 use Rattle.scope.specs.Lists.{holding}
 use Rattle.scope.specs.Tree.{treeOf}
-use Rattle.scope.specs.Asked.{Matrix, Settings, off}
+use Rattle.scope.specs.Asked.{Matrix, Settings, off, nothing}
 use Rattle.scope.specs.Calls.{runOf, treeRefusal}
 use Rattle.scope.specs.Program.{Reading, Deck, deckRefusal, judgedText, deckMatrix, deckSettings, deckTree, deckText, readingText, readInput, program}
 use Rattle.report.specs.Written.{Written}
@@ -56,7 +56,7 @@ module _ (cells₀ : List Float) (forbidden₀ : List ℕ) (room : 128 ≤ lengt
         let b = pairs-same in
         let m = told .m-is in
         let t = told .threshold-is in
-        λ i. record { shortest = off (m i); threshold = ofBits binary64 (t i); forbidden = b i; layers = [] }
+        λ i. record { shortest = off (m i); threshold = ofBits binary64 (t i); forbidden = b i; source = nothing }
 
     tree-free : treeNumber g cells forbidden ≡ 0
     unfolding treeNumber

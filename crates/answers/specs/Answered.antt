@@ -5,7 +5,7 @@ use Prim.Native.Nat.{ℕ, zero, suc, _*_, _≤_}
 use lib.Ieee.{Float, ofBits, binary64}
 use lib.ListN.{length, take}
 use Rattle.scope.specs.Lists.{holding}
-use Rattle.scope.specs.Asked.{Matrix, Settings, off}
+use Rattle.scope.specs.Asked.{Matrix, Settings, off, nothing}
 use Rattle.scope.specs.Refusals.{unless, toldUnless}
 use Rattle.scope.specs.Text.{bytes, decimal, line}
 use Rattle.scope.specs.Tree.{Run, treeOf, recordsOf, sheet}
@@ -25,7 +25,7 @@ abbrev pub matrixHeld : Given → List Float → Matrix
 matrixHeld g cells = record { cells = take (g .n * g .d) cells; n = g .n; d = g .d }
 
 abbrev pub settingsHeld : Given → List ℕ → Settings
-settingsHeld g forbidden = record { shortest = off (g .m); threshold = ofBits binary64 (g .threshold); forbidden = take (2 * g .pairs) forbidden; layers = [] }
+settingsHeld g forbidden = record { shortest = off (g .m); threshold = ofBits binary64 (g .threshold); forbidden = take (2 * g .pairs) forbidden; source = nothing }
 
 abbrev pub runHeld : Given → List Float → List ℕ → Run
 runHeld g cells forbidden = runOf (matrixHeld g cells) (settingsHeld g forbidden)

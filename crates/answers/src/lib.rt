@@ -72,7 +72,7 @@ fn answer_deck(
     }
     match grow(deck, cells, forbidden, sums, rows, gains, cuts) {
         Grown::Refused(number) => report::put_refused(out, 0, number),
-        Grown::Counted(counts) => sheet_text::put_sheet(out, counts, rows, gains, cuts),
+        Grown::Counted(counts, _) => sheet_text::put_sheet(out, counts, rows, gains, cuts),
     }
 }
 
@@ -107,6 +107,8 @@ fn grow(
         settings,
         &forbidden[..end],
         &cells[..0],
+        &forbidden[..0],
+        0,
         sums,
         rows,
         gains,

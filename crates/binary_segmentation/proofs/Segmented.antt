@@ -1,4 +1,4 @@
--- The whole run is grown behind the seeds' records: there is room for it, and the lent memory then holds what the definitions tell. Assumes nothing.
+-- The whole run is grown behind the stored segments' records: there is room for it, and the lent memory then holds what the definitions tell. Assumes nothing.
 use mathlib.Core.Path.{_≡_, refl, ap, _∙_}
 use mathlib.Core.List.{List, [], _∷_, _++_, map}
 use Prim.Native.Nat.{ℕ, zero, suc, _+_, _-_, _*_, _/_, _≤_}
@@ -10,14 +10,14 @@ use Rattle.scope.specs.Lists.{holding}
 use Rattle.control.specs.Settings.{shortestOf}
 use Rattle.scope.specs.Grid.{Record}
 use Rattle.scope.specs.Layers.{Segment, one}
-use Rattle.scope.specs.Tree.{Run, direct, choice, verdict, seedRecords, parted, grow, grown, treeOf, recordsOf, nodes, nodeCount, sheet, mostNodes}
+use Rattle.scope.specs.Tree.{Run, direct, choice, verdict, storedRecords, parted, grow, grown, treeOf, recordsOf, nodes, nodeCount, sheet, mostNodes}
 use Rattle.stored.specs.Flat.{flatRows, gainsOf, recordsIn, Put}
 use Rattle.stored.proofs.Flat.{sets-holding, put-more, put-told, told-put}
 use Rattle.binary_segmentation.specs.declared.tree.Asked.{Asked}
 use Rattle.binary_segmentation.specs.declared.tree.Counts.{Counts}
 use Rattle.node.specs.Nodes.{toNode}
 use Rattle.binary_segmentation.specs.Growth.{runOver, over, Lent, stored, Written, Growing, Sound, Fits, Ready, Holds, Segmented}
-use Rattle.demand.proofs.Records.{seeds-are}
+use Rattle.demand.proofs.Records.{segments-are}
 use Rattle.demand.proofs.Demand.{demand}
 use Rattle.binary_segmentation.proofs.Growth.{direct-sound, made-few, nodes-long}
 
@@ -49,12 +49,12 @@ module _ (sums : List Float) (forbidden : List ℕ) (s : Asked) (n count : ℕ) 
   abbrev before : Counts
   before = record { nodes = 0; records = count; cuts = 0 }
 
-  -- of each run whose seeds have the stored records
-  module _ (seeds : List Segment) (seeded : seedRecords (runOver sums forbidden s n seeds) ≡ stored l count) where
+  -- of each run whose stored segments have these records
+  module _ (segments : List Segment) (stand : storedRecords (runOver sums forbidden s n segments) ≡ stored l count) where
     abbrev q : Run
-    q = runOver sums forbidden s n seeds
+    q = runOver sums forbidden s n segments
 
-    -- neither n nor the seeds are read while it is grown
+    -- neither n nor the stored segments are read while it is grown
     same-growth : (k : ℕ) (rs : List Record) (start stop : ℕ) → grow (over sums forbidden s) k rs start stop ≡ grow q k rs start stop
     unfolding grow verdict choice
     same-growth zero rs start stop = refl
@@ -62,7 +62,7 @@ module _ (sums : List Float) (forbidden : List ℕ) (s : Asked) (n count : ℕ) 
 
     whole : grow (over sums forbidden s) n (stored l count) 0 n ≡ grown q
     unfolding grown
-    whole = rw (← seeded) (same-growth n (seedRecords q) 0 n)
+    whole = rw (← stand) (same-growth n (storedRecords q) 0 n)
 
     few : nodeCount (treeOf q) ≤ mostNodes n (shortestOf (s .settings .shortest))
     few = demand q (ready .least) (ready .nonempty) .few-nodes
@@ -72,16 +72,16 @@ module _ (sums : List Float) (forbidden : List ℕ) (s : Asked) (n count : ℕ) 
 
     few-made : length (grown q .made) ≤ nodeCount (treeOf q)
     unfolding grown
-    few-made = made-few q n (seedRecords q) 0 n
+    few-made = made-few q n (storedRecords q) 0 n
 
-    seeds-sound : Sound (shortestOf (s .settings .shortest)) (seedRecords q)
-    seeds-sound r i = let f = seeds-are q r i in direct-sound q (f .seed .start) (f .seed .stop) r (f .found)
+    stored-sound : Sound (shortestOf (s .settings .shortest)) (storedRecords q)
+    stored-sound r i = let f = segments-are q r i in direct-sound q (f .segment .start) (f .segment .stop) r (f .found)
 
     fits : Fits (over sums forbidden s) 0 n before l
     fits = record {
       least = ready .least;
       nonempty = ready .nonempty;
-      sound = rw (← seeded) seeds-sound;
+      sound = rw (← stand) stored-sound;
       fuel = n;
       enough = omega arith;
       room-rows = rw whole (omega (arith, few, ready .room-rows));
@@ -94,10 +94,10 @@ module _ (sums : List Float) (forbidden : List ℕ) (s : Asked) (n count : ℕ) 
       written : Written (grown q) before l l′ next
       written = rw whole at (growing .by n (omega arith))
 
-      -- the seeds' records, then those that are made
+      -- the stored segments' records, then those that are made
       put : Put (recordsOf q) 0 (l .rows) (l .gains) (l′ .rows) (l′ .gains) (next .records)
       unfolding recordsOf
-      put = put-more (rw (← seeded) at (records-put count (l .rows) (l .gains) (omega (arith, ready .room-rows)) (omega (arith, ready .room-gains)))) (written .records)
+      put = put-more (rw (← stand) at (records-put count (l .rows) (l .gains) (omega (arith, ready .room-rows)) (omega (arith, ready .room-gains)))) (written .records)
 
       room : (3 * next .records ≤ length (l .rows)) × (next .records ≤ length (l .gains))
       room = let e = written .records .told in (omega (arith, e, few-made, few, ready .room-rows), omega (arith, e, few-made, few, ready .room-gains))
@@ -115,7 +115,7 @@ module _ (sums : List Float) (forbidden : List ℕ) (s : Asked) (n count : ℕ) 
           }
 
   pub whole-fits : Fits (over sums forbidden s) 0 n before l
-  whole-fits = fits (ready .seeds) (ready .seeded)
+  whole-fits = fits (ready .segments) (ready .stand)
 
   pub segmented : (l′ : Lent) (next : Counts) → Growing (over sums forbidden s) 0 n before l l′ next → Segmented sums forbidden s n count l l′ next
-  segmented l′ next growing = record { by = λ seeds seeded. holds seeds seeded l′ next growing }
+  segmented l′ next growing = record { by = λ segments stand. holds segments stand l′ next growing }

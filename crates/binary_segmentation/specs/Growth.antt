@@ -11,7 +11,7 @@ use Rattle.scope.specs.Asked.{Shortest}
 use Rattle.scope.specs.Gain.{gainOf}
 use Rattle.scope.specs.Grid.{Record}
 use Rattle.scope.specs.Layers.{Segment, one}
-use Rattle.scope.specs.Tree.{Run, direct, seedRecords, Verdict, uncut, cut, verdict, Grown, grow, treeOf, recordsOf, nodes, nodeCount, sheet, mostNodes}
+use Rattle.scope.specs.Tree.{Run, direct, storedRecords, Verdict, uncut, cut, verdict, Grown, grow, treeOf, recordsOf, nodes, nodeCount, sheet, mostNodes}
 use Rattle.control.specs.Settings.{shortestOf}
 use Rattle.optimizer.specs.Records.{fromRecord}
 use Rattle.stored.specs.Flat.{flatRows, gainsOf, recordsIn, Put}
@@ -22,11 +22,11 @@ use Rattle.binary_segmentation.specs.declared.tree.Judged.{Judged}
 use Rattle.binary_segmentation.specs.declared.tree.Judged.the-variants.{Uncut, Cut}
 use Rattle.node.specs.Nodes.{toNode, leafOf}
 
--- a run over prefix sums: n rows, and the segments that were searched beforehand
+-- a run over prefix sums: n rows, and its stored segments
 abbrev pub runOver : List Float → List ℕ → Asked → ℕ → List Segment → Run
-runOver sums forbidden s n seeds = record { n = n; shortest = shortestOf (s .settings .shortest); threshold = s .settings .threshold; forbidden = forbidden; seeds = seeds; gain = gainOf sums (s .d) }
+runOver sums forbidden s n segments = record { n = n; shortest = shortestOf (s .settings .shortest); threshold = s .settings .threshold; forbidden = forbidden; segments = segments; gain = gainOf sums (s .d) }
 
--- what growing reads of it: neither n nor the seeds
+-- what growing reads of it: neither n nor the stored segments
 abbrev pub over : List Float → List ℕ → Asked → Run
 over sums forbidden s = runOver sums forbidden s 0 []
 
@@ -91,12 +91,12 @@ abbrev pub Sized : Asked → ℕ → ℕ → Type 0
 Sized s stop long = (s .settings .shortest .m ≤ 4096) × (stop ≤ 4096) × ((stop + 1) * s .d ≤ long)
 
 -- ---- the whole run [0, n)
--- there is room for it, and the first `count` records are those of some seeds
+-- there is room for it, and the first `count` records are those of some segments
 pub record Ready (sums : List Float) (forbidden : List ℕ) (s : Asked) (n count : ℕ) (l : Lent) : Type 0 where
   pub least : 1 ≤ s .settings .shortest .m
   pub nonempty : 1 ≤ n
-  pub seeds : List Segment
-  pub seeded : seedRecords (runOver sums forbidden s n seeds) ≡ stored l count
+  pub segments : List Segment
+  pub stand : storedRecords (runOver sums forbidden s n segments) ≡ stored l count
   pub room-rows : 3 * (count + mostNodes n (shortestOf (s .settings .shortest))) ≤ length (l .rows)
   pub room-gains : count + mostNodes n (shortestOf (s .settings .shortest)) ≤ length (l .gains)
   pub room-nodes : mostNodes n (shortestOf (s .settings .shortest)) ≤ length (l .nodes)
@@ -110,6 +110,6 @@ pub record Holds (q : Run) (l l′ : Lent) (next : Counts) : Type 0 where
   pub cuts : l′ .cuts ≡ holding (sheet (treeOf q)) (l .cuts)
   pub counts : next ≡ record { nodes = nodeCount (treeOf q); records = length (recordsOf q); cuts = length (sheet (treeOf q)) }
 
--- of each run whose seeds have the stored records
+-- of each run whose stored segments have these records
 pub record Segmented (sums : List Float) (forbidden : List ℕ) (s : Asked) (n count : ℕ) (l l′ : Lent) (next : Counts) : Type 0 where
-  pub by : (seeds : List Segment) → seedRecords (runOver sums forbidden s n seeds) ≡ stored l count → Holds (runOver sums forbidden s n seeds) l l′ next
+  pub by : (segments : List Segment) → storedRecords (runOver sums forbidden s n segments) ≡ stored l count → Holds (runOver sums forbidden s n segments) l l′ next

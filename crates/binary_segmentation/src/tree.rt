@@ -152,7 +152,7 @@ fn grow(
     }
 }
 
-// Grows the whole run [0, n) behind the seeds' records, the first `count` ones. Tells how many nodes, records and cuts there are.
+// Grows the whole run [0, n) behind the stored segments' records, the first `count` ones. Tells how many nodes, records and cuts there are.
 pub fn binary_segmentation(
     sums: &[f64],
     forbidden: &[usize],

@@ -11,8 +11,9 @@ use lib.Seq.{length-take-le, take-length, drop-length}
 use Rattle.scope.specs.Lists.{holding}
 use Rattle.scope.specs.Asked.{Matrix, Settings}
 use Rattle.scope.specs.Refusals.{Test, test, firstOf, Answer, refused, given, unless, toldUnless}
+use Rattle.scope.specs.Draws.{no8-draws}
 use Rattle.scope.specs.Tree.{Run, treeOf, recordsOf, Node, nodes, sheet, mostNodes}
-use Rattle.scope.specs.Calls.{sumsOf, TreeAsked, treeTests, treeRefusal, treeCall, Counts, countsOf, runOf, countedRefusal, countedCall, countsTold}
+use Rattle.scope.specs.Calls.{sumsOf, TreeAsked, treeRoomTests, treeTests, treeRefusal, treeCall, Counts, countsOf, runOf, countedRefusal, countedCall, countsTold}
 use Rattle.scope.proofs.Never.{never}
 use Rattle.control.proofs.Clean.{Numbered}
 use Rattle.stored.specs.Flat.{recordRoom}
@@ -24,7 +25,7 @@ use Rattle.entry_tree.specs.declared.Grown.{Grown}
 use Rattle.entry_tree.specs.declared.Grown.the-variants.{Counted}
 use Rattle.entry_tree.specs.Answers.{grownOf}
 use Rattle.entry_tree.specs.Left.{Slices, recordSlices, TreeLeft}
-use Rattle.told.specs.Told.{numberOf, countedRoom, threeIn, grownNumber, grownCounts, GrownTold}
+use Rattle.told.specs.Told.{numberOf, countedRoom, fourIn, grownNumber, grownCounts, GrownTold}
 use Rattle.changeforest_c.specs.Stored.{TreeStored}
 
 -- ---- the number
@@ -34,10 +35,10 @@ under [] ts us h = h
 under (test true k ∷ front) ts us h = refl
 under (test false k ∷ front) ts us h = under front ts us h
 
-sevens : (p q : Bool) (ts : List Test) → firstOf (test true 7 ∷ ts) ≡ firstOf (test p 7 ∷ test q 7 ∷ test true 7 ∷ [])
-sevens true q ts = refl
-sevens false true ts = refl
-sevens false false ts = refl
+sevens : (p q : Bool) (ts us : List Test) → firstOf (test true 7 ∷ ts) ≡ firstOf (test p 7 ∷ test q 7 ∷ test true 7 ∷ us)
+sevens true q ts us = refl
+sevens false true ts us = refl
+sevens false false ts us = refl
 
 module _ (x : Matrix) (s : Settings) (sums records cuts : ℕ) where
   abbrev with : ℕ → TreeAsked
@@ -48,21 +49,22 @@ module _ (x : Matrix) (s : Settings) (sums records cuts : ℕ) where
 
   pub counted-number : (nodes counts : ℕ) → treeRefusal (with (countedRoom nodes counts)) ≡ countedRefusal (with nodes) counts
   unfolding treeRefusal countedRefusal countedRoom
-  counted-number nodes counts = go (ltb counts 3)
+  counted-number nodes counts = go (ltb counts 4)
     where
-      go : (b : Bool) → firstOf (treeTests (with (cond b 0 nodes))) ≡ firstOf (treeTests (with nodes) ++ (test b 7 ∷ []))
+      go : (b : Bool) → firstOf (treeTests (with (cond b 0 nodes))) ≡ firstOf (treeRoomTests (with nodes) ++ (test b 7 ∷ no8-draws (x .n) (s .source) ∷ []))
       go true =
           let ts = treeTests (with nodes) in
           let most = mostNodes (x .n) (s .shortest) in
-          rw no-nodes (under (take 8 ts) (test true 7 ∷ drop 9 ts) (drop 8 ts ++ (test true 7 ∷ [])) (sevens (ltb nodes most) (ltb cuts ((most - 1) / 2)) (drop 9 ts)))
-      go false = under (treeTests (with nodes)) [] (test false 7 ∷ []) refl
+          let last = no8-draws (x .n) (s .source) ∷ [] in
+          rw no-nodes (under (take 11 ts) (test true 7 ∷ drop 12 ts) (drop 11 (treeRoomTests (with nodes)) ++ (test true 7 ∷ last)) (sevens (ltb nodes most) (ltb cuts ((most - 1) / 2)) (drop 12 ts) last))
+      go false = under (treeRoomTests (with nodes)) (no8-draws (x .n) (s .source) ∷ []) (test false 7 ∷ no8-draws (x .n) (s .source) ∷ []) refl
 
   -- where the counts don't fit, some number applies
-  pub short-refused : (nodes counts : ℕ) → ltb counts 3 ≡ true → (k : ℕ) × (countedRefusal (with nodes) counts ≡ suc k)
+  pub short-refused : (nodes counts : ℕ) → ltb counts 4 ≡ true → (k : ℕ) × (countedRefusal (with nodes) counts ≡ suc k)
   unfolding countedRefusal
-  short-refused nodes counts h = rw h (some (treeTests (with nodes)) tt)
+  short-refused nodes counts h = rw h (some (treeRoomTests (with nodes)) tt)
     where
-      some : (ts : List Test) → T (Numbered ts) → (k : ℕ) × (firstOf (ts ++ (test true 7 ∷ [])) ≡ suc k)
+      some : (ts : List Test) → T (Numbered ts) → (k : ℕ) × (firstOf (ts ++ (test true 7 ∷ no8-draws (x .n) (s .source) ∷ [])) ≡ suc k)
       some [] z = (6, refl)
       some (test true zero ∷ ts) z = absurd z
       some (test true (suc k) ∷ ts) z = (k, refl)
@@ -70,20 +72,21 @@ module _ (x : Matrix) (s : Settings) (sums records cuts : ℕ) where
       some (test false (suc k) ∷ ts) z = some ts z
 
 -- ---- the counts
-three : (a b c : ℕ) (l : List ℕ) → 3 ≤ length l → threeIn a b c l ≡ holding (a ∷ b ∷ c ∷ []) l
-three a b c [] h = absurd (omega arith)
-three a b c (x ∷ []) h = absurd (omega arith)
-three a b c (x ∷ y ∷ []) h = absurd (omega arith)
-three a b c (x ∷ y ∷ z ∷ l) h = refl
+four : (a b c d : ℕ) (l : List ℕ) → 4 ≤ length l → fourIn a b c d l ≡ holding (a ∷ b ∷ c ∷ d ∷ []) l
+four a b c d [] h = absurd (omega arith)
+four a b c d (x ∷ []) h = absurd (omega arith)
+four a b c d (x ∷ y ∷ []) h = absurd (omega arith)
+four a b c d (x ∷ y ∷ z ∷ []) h = absurd (omega arith)
+four a b c d (x ∷ y ∷ z ∷ v ∷ l) h = refl
 
 -- ---- the enum's case is the definition's answer
 number-is : (a : Answer Counts) → grownNumber (grownOf a) ≡ numberOf a
 number-is (refused k) = refl
 number-is (given c) = refl
 
-counts-are : (a : Answer Counts) (before : List ℕ) → 3 ≤ length before → grownCounts (grownOf a) before ≡ holding (countsTold a) before
+counts-are : (a : Answer Counts) (before : List ℕ) → 4 ≤ length before → grownCounts (grownOf a) before ≡ holding (countsTold a) before
 counts-are (refused k) before h = refl
-counts-are (given c) before h = three (c .nodes) (c .records) (c .cuts) before h
+counts-are (given c) before h = four (c .nodes) (c .records) (c .cuts) (c .stored) before h
 
 -- ---- what the entry point leaves, told: it was lent the first nodes, so many as the counts let
 abbrev pub front : Slices → ℕ → Slices
@@ -111,9 +114,9 @@ module _ (x : Matrix) (s : Settings) (before : Slices) (counts₀ : List ℕ) wh
 
     nodes-whole : holding (map toNode told) (take room (before .nodes)) ++ drop room (before .nodes) ≡ holding (map toNode told) (before .nodes)
     unfolding countedRoom
-    nodes-whole = go (ltb (length counts₀) 3) refl
+    nodes-whole = go (ltb (length counts₀) 4) refl
       where
-        go : (b : Bool) → ltb (length counts₀) 3 ≡ b → holding (map toNode told) (take room (before .nodes)) ++ drop room (before .nodes) ≡ holding (map toNode told) (before .nodes)
+        go : (b : Bool) → ltb (length counts₀) 4 ≡ b → holding (map toNode told) (take room (before .nodes)) ++ drop room (before .nodes) ≡ holding (map toNode told) (before .nodes)
         go true e =
             let (k, w) = short-refused x s (length (before .sums)) (recordRoom (before .rows) (before .gains)) (length (before .cuts)) (length (before .nodes)) (length counts₀) e in
             rw (is, e, w)
@@ -128,19 +131,19 @@ module _ (x : Matrix) (s : Settings) (before : Slices) (counts₀ : List ℕ) wh
       grew = left .answer ∙ ap (λ (k : ℕ). grownOf (unless k (countsOf q))) same
 
       counts-told : counts₁ ≡ holding (countsTold answer) counts₀
-      counts-told = heard .counts ∙ ap (λ (y : Grown). grownCounts y counts₀) grew ∙ go (ltb (length counts₀) 3) refl
+      counts-told = heard .counts ∙ ap (λ (y : Grown). grownCounts y counts₀) grew ∙ go (ltb (length counts₀) 4) refl
         where
-          go : (b : Bool) → ltb (length counts₀) 3 ≡ b → grownCounts (grownOf answer) counts₀ ≡ holding (countsTold answer) counts₀
+          go : (b : Bool) → ltb (length counts₀) 4 ≡ b → grownCounts (grownOf answer) counts₀ ≡ holding (countsTold answer) counts₀
           go true e =
               let (k, w) = short-refused x s (length (before .sums)) (recordRoom (before .rows) (before .gains)) (length (before .cuts)) (length (before .nodes)) (length counts₀) e in
               rw w
-          go false e = counts-are answer counts₀ (ltb-false (length counts₀) 3 e)
+          go false e = counts-are answer counts₀ (ltb-false (length counts₀) 4 e)
 
       demanded : r ≡ 0 → Demand q
       demanded z = go number refl
         where
           go : (k : ℕ) → number ≡ k → Demand q
-          go zero e = left .demand _ (rw e at grew)
+          go zero e = left .demand _ _ (rw e at grew)
           go (suc k) e = let w : grownNumber g ≡ suc k = ap (λ (y : Grown). grownNumber y) grew ∙ rw e in absurd (omega (arith, heard .number, w))
 
       pub stored : TreeStored x s r before (whole before room after) counts₀ counts₁

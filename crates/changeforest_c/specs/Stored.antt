@@ -6,13 +6,13 @@ use Prim.Native.Nat.{ℕ}
 use lib.Ieee.{Float}
 use lib.ListN.{length}
 use Rattle.scope.specs.Lists.{holding}
-use Rattle.scope.specs.Asked.{Matrix, Shortest, Settings}
+use Rattle.scope.specs.Asked.{Matrix, Shortest, Source, Settings}
 use Rattle.scope.specs.Calls.{lengthAnswer, CandidatesAsked, candidatesCall, GainAsked, gainCall, SearchAsked, searchCall, TreeTold, runOf, countedCall, countsTold, PickAsked, pickAnswer, GuessesAsked, guessesAnswer, PermutationAsked, permutationAnswer}
 use Rattle.segmentation.specs.Seeds.{Slices as RecordSlices, Held}
 use Rattle.node.specs.Nodes.{toNode}
 use Rattle.demand.specs.Demand.{Demand}
 use Rattle.prepared.specs.Answers.{treeAsked}
-use Rattle.entry_segments.specs.Left.{seededTold}
+use Rattle.entry_segments.specs.Left.{storedTold}
 use Rattle.entry_tree.specs.Left.{Slices, recordSlices}
 use Rattle.told.specs.Told.{numberOf, valueOr, splitOr, gainOr, entryOr, lengthOr, counterOr, pOr, significantOr}
 
@@ -40,17 +40,17 @@ pub record SearchStored (a : SearchAsked) (r : ℕ) (sums₀ sums₁ : List Floa
   pub split : split₁ ≡ splitOr (searchCall a .answer) split₀
   pub gain : gain₁ ≡ gainOr (searchCall a .answer) gain₀
 
--- the seeded segments' records, how many, and the prefix sums
-pub record SeededStored (x : Matrix) (short : Shortest) (forbidden : List ℕ) (layers : List Float) (r : ℕ) (before after : RecordSlices) (count₀ count₁ : ℕ) : Type 0 where
-  pub number : r ≡ numberOf (seededTold x short forbidden layers before .answer)
-  pub held : Held (seededTold x short forbidden layers before .sums) (seededTold x short forbidden layers before .records) before after
-  pub count : count₁ ≡ valueOr (seededTold x short forbidden layers before .answer) count₀
+-- the stored segments' records, how many, and the prefix sums
+pub record SegmentsStored (x : Matrix) (short : Shortest) (forbidden : List ℕ) (source : Source) (r : ℕ) (before after : RecordSlices) (count₀ count₁ : ℕ) : Type 0 where
+  pub number : r ≡ numberOf (storedTold x short forbidden source before .answer)
+  pub held : Held (storedTold x short forbidden source before .sums) (storedTold x short forbidden source before .records) before after
+  pub count : count₁ ≡ valueOr (storedTold x short forbidden source before .answer) count₀
 
 -- what follows of a tree where these are lent, and so many counts
 abbrev pub countedTold : Matrix → Settings → Slices → List ℕ → TreeTold
 countedTold x s lent counts = countedCall (treeAsked x s (recordSlices lent) (length (lent .nodes)) (length (lent .cuts))) (length counts)
 
--- the tree's nodes, its records, its cuts, the prefix sums, and the three counts; and of a run that is not refused, the demand on its tree and its sheet
+-- the tree's nodes, its records, its cuts, the prefix sums, and the four counts; and of a run that is not refused, the demand on its tree and its sheet
 pub record TreeStored (x : Matrix) (s : Settings) (r : ℕ) (before after : Slices) (counts₀ counts₁ : List ℕ) : Type 0 where
   pub number : r ≡ numberOf (countedTold x s before counts₀ .answer)
   pub held : Held (countedTold x s before counts₀ .sums) (countedTold x s before counts₀ .records) (recordSlices before) (recordSlices after)

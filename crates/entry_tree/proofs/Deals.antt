@@ -10,7 +10,7 @@ use Rattle.binary_segmentation.specs.declared.tree.Counts.{Counts}
 use Rattle.node.proofs.Data.{node}
 use Rattle.binary_segmentation.proofs.Data.{settings, counts}
 use Rattle.entry_tree.specs.declared.Grown.the-variants.{Counted, Refused}
-use Rattle.prepared.specs.declared.Prepared.the-variants.{Seeded, Refused as Unprepared}
+use Rattle.prepared.specs.declared.Prepared.the-variants.{Stored, Refused as Unprepared}
 use Rattle.control.specs.Settings.{settingsOf}
 use Rattle.prepared.specs.Answers.{treeAsked, Prepares}
 use Rattle.entry_tree.specs.Left.{TreeLeft, PointsLeft}
@@ -26,44 +26,44 @@ abbrev pub prepared : Datum
 prepared = of-enum prepared′.the-type prepared″.the-laws prepared″.the-plain prepared″.the-copy tt
 
 -- ---- what fits has parts that fit, and what has parts that fit does
-pub seeded-fits : (len count : ℕ) → Fit prepared (Seeded len count) → Fit word len × Fit word count
-seeded-fits len count is = let h = EL.owed prepared′.the-type prepared″.the-laws (Seeded len count) _ is in (h .0, h .1 .0)
+pub stored-fits : (len count : ℕ) → Fit prepared (Stored len count) → Fit word len × Fit word count
+stored-fits len count is = let h = EL.owed prepared′.the-type prepared″.the-laws (Stored len count) _ is in (h .0, h .1 .0)
 
 pub refused-fits : (k : ℕ) → Fit prepared (Unprepared k) → Fit grown (Refused k)
 refused-fits k is = EL.owes grown′.the-type grown″.the-laws (Refused k) (EL.owed prepared′.the-type prepared″.the-laws (Unprepared k) _ is)
 
-pub counted-fits : (n : Counts) → Fit counts n → Fit grown (Counted n)
-counted-fits n is = EL.owes grown′.the-type grown″.the-laws (Counted n) (is, tt)
+pub counted-fits : (n : Counts) (stored : ℕ) → Fit counts n → Fit word stored → Fit grown (Counted n stored)
+counted-fits n stored is fits = EL.owes grown′.the-type grown″.the-laws (Counted n stored) (is, (fits, tt))
 
 -- ---- prepared::prepare
 abbrev pub preparing : Deal
 preparing = record {
-  ks = shared f64 ∷ plain word ∷ plain word ∷ plain settings ∷ shared usize ∷ shared f64 ∷ unique f64 ∷ unique usize ∷ unique f64 ∷ plain word ∷ plain word ∷ [];
+  ks = shared f64 ∷ plain word ∷ plain word ∷ plain settings ∷ shared usize ∷ shared f64 ∷ shared usize ∷ plain word ∷ unique f64 ∷ unique usize ∷ unique f64 ∷ plain word ∷ plain word ∷ [];
   res = prepared;
   asks = λ _. Unit {0};
-  says = λ (cells, (n, (d, (s, (forbidden, (layers, (sums, (rows, (gains, (nodes, (cuts, _))))))))))) r (_, (_, (_, (_, (_, (_, (sums′, (rows′, (gains′, _))))))))).
-      Prepares (treeAsked (record { cells = now (cells .x); n = n; d = d }) (settingsOf s (now (forbidden .x)) (now (layers .x))) (record { sums = sums .list; rows = rows .list; gains = gains .list }) nodes cuts) r
+  says = λ (cells, (n, (d, (s, (forbidden, (layers, (draws, (w, (sums, (rows, (gains, (nodes, (cuts, _))))))))))))) r (_, (_, (_, (_, (_, (_, (_, (_, (sums′, (rows′, (gains′, _))))))))))).
+      Prepares (treeAsked (record { cells = now (cells .x); n = n; d = d }) (settingsOf s (now (forbidden .x)) (record { layers = now (layers .x); draws = now (draws .x); W = w })) (record { sums = sums .list; rows = rows .list; gains = gains .list }) nodes cuts) r
       (record { sums = sums .list; rows = rows .list; gains = gains .list }) (record { sums = sums′; rows = rows′; gains = gains′ });
 }
 
 -- ---- binary_segmentation
 abbrev pub answering : Deal
 answering = record {
-  ks = shared f64 ∷ plain word ∷ plain word ∷ plain settings ∷ shared usize ∷ shared f64 ∷ unique f64 ∷ unique usize ∷ unique f64 ∷ unique (node .row) ∷ unique usize ∷ [];
+  ks = shared f64 ∷ plain word ∷ plain word ∷ plain settings ∷ shared usize ∷ shared f64 ∷ shared usize ∷ plain word ∷ unique f64 ∷ unique usize ∷ unique f64 ∷ unique (node .row) ∷ unique usize ∷ [];
   res = grown;
   asks = λ _. Unit {0};
-  says = λ (cells, (n, (d, (s, (forbidden, (layers, (sums, (rows, (gains, (nodes, (cuts, _))))))))))) r (_, (_, (_, (_, (_, (_, (sums′, (rows′, (gains′, (nodes′, (cuts′, _))))))))))).
-      TreeLeft (record { cells = now (cells .x); n = n; d = d }) (settingsOf s (now (forbidden .x)) (now (layers .x))) r
+  says = λ (cells, (n, (d, (s, (forbidden, (layers, (draws, (w, (sums, (rows, (gains, (nodes, (cuts, _))))))))))))) r (_, (_, (_, (_, (_, (_, (_, (_, (sums′, (rows′, (gains′, (nodes′, (cuts′, _))))))))))))).
+      TreeLeft (record { cells = now (cells .x); n = n; d = d }) (settingsOf s (now (forbidden .x)) (record { layers = now (layers .x); draws = now (draws .x); W = w })) r
       (record { sums = sums .list; rows = rows .list; gains = gains .list; nodes = nodes .list; cuts = cuts .list }) (record { sums = sums′; rows = rows′; gains = gains′; nodes = nodes′; cuts = cuts′ });
 }
 
 -- ---- split_points
 abbrev pub splitting : Deal
 splitting = record {
-  ks = shared f64 ∷ plain word ∷ plain word ∷ plain settings ∷ shared usize ∷ shared f64 ∷ unique f64 ∷ unique usize ∷ unique f64 ∷ unique usize ∷ [];
+  ks = shared f64 ∷ plain word ∷ plain word ∷ plain settings ∷ shared usize ∷ shared f64 ∷ shared usize ∷ plain word ∷ unique f64 ∷ unique usize ∷ unique f64 ∷ unique usize ∷ [];
   res = grown;
   asks = λ _. Unit {0};
-  says = λ (cells, (n, (d, (s, (forbidden, (layers, (sums, (rows, (gains, (cuts, _)))))))))) r (_, (_, (_, (_, (_, (_, (sums′, (rows′, (gains′, (cuts′, _)))))))))).
-      PointsLeft (record { cells = now (cells .x); n = n; d = d }) (settingsOf s (now (forbidden .x)) (now (layers .x))) r
+  says = λ (cells, (n, (d, (s, (forbidden, (layers, (draws, (w, (sums, (rows, (gains, (cuts, _)))))))))))) r (_, (_, (_, (_, (_, (_, (_, (_, (sums′, (rows′, (gains′, (cuts′, _)))))))))))).
+      PointsLeft (record { cells = now (cells .x); n = n; d = d }) (settingsOf s (now (forbidden .x)) (record { layers = now (layers .x); draws = now (draws .x); W = w })) r
       (record { sums = sums .list; rows = rows .list; gains = gains .list }) (record { sums = sums′; rows = rows′; gains = gains′ }) (cuts .list) cuts′;
 }

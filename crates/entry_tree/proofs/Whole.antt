@@ -7,13 +7,14 @@ use lib.Ieee.{Float}
 use lib.ListN.{length, take, drop, length-append}
 use lib.Seq.{drop-append-add, drop-drop}
 use Rattle.scope.specs.Lists.{holding}
-use Rattle.scope.specs.Asked.{Matrix}
+use Rattle.scope.specs.Asked.{Matrix, Source}
 use Rattle.scope.specs.Asked as asked
 use Rattle.scope.specs.Refusals.{unless, toldUnless}
 use Rattle.scope.specs.Sums.{prefixSums}
-use Rattle.scope.specs.Layers.{seeded, layersTotal}
-use Rattle.scope.specs.Tree.{Run, direct, seedRecords, grown, recordsOf, treeOf, nodes, sheet}
-use Rattle.scope.specs.Calls.{sumsOf, sumsRoom, TreeAsked, runOf, countsOf, treeRefusal, treeCall}
+use Rattle.scope.specs.Layers.{Segment}
+use Rattle.scope.specs.Draws.{mostStored}
+use Rattle.scope.specs.Tree.{Run, direct, storedRecords, grown, recordsOf, treeOf, nodes, sheet}
+use Rattle.scope.specs.Calls.{sumsOf, sumsRoom, TreeAsked, segmentsOf, runOf, countsOf, treeRefusal, treeCall}
 use Rattle.scope.proofs.Sums.{length-flat}
 use Rattle.scope.proofs.Never.{never}
 use Rattle.control.specs.Settings.{settingsOf}
@@ -23,13 +24,13 @@ use Rattle.change_in_mean.proofs.Room.{sums-are, sums-part}
 use Rattle.stored.specs.Flat.{flatRows, gainsOf}
 use Rattle.stored.proofs.Flat.{rows-append, gains-append, records-told}
 use Rattle.segmentation.specs.Seeds.{Slices as RecordSlices}
-use Rattle.segmentation.proofs.Stored.{seeds-few}
+use Rattle.scope.proofs.Draws.{records-few}
 use Rattle.binary_segmentation.specs.declared.tree.Asked.{Asked}
 use Rattle.binary_segmentation.specs.declared.tree.Counts.{Counts}
 use Rattle.node.specs.Nodes.{toNode}
 use Rattle.binary_segmentation.specs.Growth.{runOver, Lent, stored, Sized, Ready, Holds, Segmented}
-use Rattle.prepared.specs.declared.Prepared.the-variants.{Seeded, Refused as Unprepared}
-use Rattle.prepared.specs.Answers.{treeAsked, seedsOf, preparedOf, Prepares}
+use Rattle.prepared.specs.declared.Prepared.the-variants.{Stored, Refused as Unprepared}
+use Rattle.prepared.specs.Answers.{treeAsked, recordsBefore, preparedOf, Prepares}
 use Rattle.prepared.proofs.Clean.{TreeClean, tree-clean}
 use Rattle.entry_tree.specs.declared.Grown.the-variants.{Counted, Refused}
 use Rattle.entry_tree.specs.Answers.{grownOf}
@@ -45,14 +46,14 @@ unprepared : (z sums count k : ℕ) → Unprepared k ≡ preparedOf sums (unless
 unprepared zero sums count k h = never (cc)
 unprepared (suc z) sums count k h = let e : k ≡ suc z = cc in (e, λ w. omega arith)
 
-counted : (z sums count len found : ℕ) → Seeded len found ≡ preparedOf sums (unless z count) → (0 ≡ z) × (len ≡ sums) × (found ≡ count)
+counted : (z sums count len found : ℕ) → Stored len found ≡ preparedOf sums (unless z count) → (0 ≡ z) × (len ≡ sums) × (found ≡ count)
 counted zero sums count len found h = (refl, cc, cc)
 counted (suc z) sums count len found h = never (cc)
 
 -- the call, with the slices lent; front is what stands in the first three once it is prepared
-module _ (x : Matrix) (s : Settings) (forbidden : List ℕ) (layers : List Float) (before : Slices) (front : RecordSlices) where
+module _ (x : Matrix) (s : Settings) (forbidden : List ℕ) (source : Source) (before : Slices) (front : RecordSlices) where
   abbrev settings : asked.Settings
-  settings = settingsOf s forbidden layers
+  settings = settingsOf s forbidden source
 
   abbrev a : TreeAsked
   a = treeAsked x settings (recordSlices before) (length (before .nodes)) (length (before .cuts))
@@ -75,23 +76,23 @@ module _ (x : Matrix) (s : Settings) (forbidden : List ℕ) (layers : List Float
   pub refused-told : (k : ℕ) → Prepares a (Unprepared k) (recordSlices before) front → TreeLeft x settings (Refused k) before (after lentOf)
   unfolding treeCall
   refused-told k said =
-      let (is, some) = unprepared (treeRefusal a) (sumsRoom x) (length (seedsOf a)) k (said .answer) in
+      let (is, some) = unprepared (treeRefusal a) (sumsRoom x) (length (recordsBefore a)) k (said .answer) in
       record {
         answer = ap grownOf (answer-refused is some (countsOf q));
         held = record {
           sums-are = said .held .sums-are;
-          rows-are = said .held .rows-are ∙ sym (held-refused is some flatRows (seedsOf a) (before .rows) refl) ∙ held-refused is some flatRows (recordsOf q) (before .rows) refl;
-          gains-are = said .held .gains-are ∙ sym (held-refused is some gainsOf (seedsOf a) (before .gains) refl) ∙ held-refused is some gainsOf (recordsOf q) (before .gains) refl;
+          rows-are = said .held .rows-are ∙ sym (held-refused is some flatRows (recordsBefore a) (before .rows) refl) ∙ held-refused is some flatRows (recordsOf q) (before .rows) refl;
+          gains-are = said .held .gains-are ∙ sym (held-refused is some gainsOf (recordsBefore a) (before .gains) refl) ∙ held-refused is some gainsOf (recordsOf q) (before .gains) refl;
         };
         nodes = held-refused is some (map toNode) (nodes 0 (treeOf q)) (before .nodes) refl;
         cuts = held-refused is some (λ l. l) (sheet (treeOf q)) (before .cuts) refl;
-        demand = λ c w. never (cc);
+        demand = λ c k w. never (cc);
       }
 
-  module _ (len count : ℕ) (said : Prepares a (Seeded len count) (recordSlices before) front) where
-    -- nothing is refused, and the seeds' records stand
-    told : (0 ≡ treeRefusal a) × (len ≡ sumsRoom x) × (count ≡ length (seedRecords q))
-    told = counted (treeRefusal a) (sumsRoom x) (length (seedsOf a)) len count (said .answer)
+  module _ (len count : ℕ) (said : Prepares a (Stored len count) (recordSlices before) front) where
+    -- nothing is refused, and the stored segments' records stand
+    told : (0 ≡ treeRefusal a) × (len ≡ sumsRoom x) × (count ≡ length (storedRecords q))
+    told = counted (treeRefusal a) (sumsRoom x) (length (recordsBefore a)) len count (said .answer)
 
     -- what is held where nothing is refused
     held : {A B : Type 0} (form : List A → List B) (l : List A) (b : List B) {c : List B} → c ≡ holding (form (toldUnless (treeRefusal a) l)) b → c ≡ holding (form l) b
@@ -103,11 +104,11 @@ module _ (x : Matrix) (s : Settings) (forbidden : List ℕ) (layers : List Float
     front-sums : front .sums ≡ holding (sumsOf x) (before .sums)
     front-sums = held (λ l. l) (sumsOf x) (before .sums) (said .held .sums-are)
 
-    front-rows : front .rows ≡ holding (flatRows (seedRecords q)) (before .rows)
-    front-rows = held flatRows (seedRecords q) (before .rows) (said .held .rows-are)
+    front-rows : front .rows ≡ holding (flatRows (storedRecords q)) (before .rows)
+    front-rows = held flatRows (storedRecords q) (before .rows) (said .held .rows-are)
 
-    front-gains : front .gains ≡ holding (gainsOf (seedRecords q)) (before .gains)
-    front-gains = held gainsOf (seedRecords q) (before .gains) (said .held .gains-are)
+    front-gains : front .gains ≡ holding (gainsOf (storedRecords q)) (before .gains)
+    front-gains = held gainsOf (storedRecords q) (before .gains) (said .held .gains-are)
 
     -- the sums of the run, and no more
     part : take len (front .sums) ≡ sumsOf x
@@ -120,38 +121,41 @@ module _ (x : Matrix) (s : Settings) (forbidden : List ℕ) (layers : List Float
     pub sized : Sized shared (x .n) (length (take len (front .sums)))
     sized = (clean .lengths .1, clean .sums .shape .rows .1, omega (arith, part-long, told .1))
 
-    few : length (seedRecords q) ≤ layersTotal layers
-    unfolding seedRecords
-    few = seeds-few (direct q) (x .n) layers
+    abbrev segments : List Segment
+    segments = segmentsOf x (settings .shortest) forbidden source
 
-    seeds-stand : seedRecords (runOver (take len (front .sums)) forbidden shared (x .n) (seeded (x .n) layers)) ≡ stored lentOf count
-    seeds-stand = rw (part, told .2, front-rows, front-gains) (sym (records-told (seedRecords q) _ _))
+    few : length (storedRecords q) ≤ mostStored source
+    unfolding storedRecords
+    few = records-few (direct q) (x .n) source
+
+    segments-stand : storedRecords (runOver (take len (front .sums)) forbidden shared (x .n) segments) ≡ stored lentOf count
+    segments-stand = rw (part, told .2, front-rows, front-gains) (sym (records-told (storedRecords q) _ _))
 
     pub ready : length (front .rows) ≡ length (before .rows) → length (front .gains) ≡ length (before .gains) → Ready (take len (front .sums)) forbidden shared (x .n) count lentOf
     ready same-rows same-gains = record {
       least = clean .lengths .0;
       nonempty = clean .sums .shape .rows .0;
-      seeds = seeded (x .n) layers;
-      seeded = seeds-stand;
+      segments = segments;
+      stand = segments-stand;
       room-rows = omega (arith, told .2, few, clean .records-fit, same-rows);
       room-gains = omega (arith, told .2, few, clean .records-fit, same-gains);
       room-nodes = omega (arith, clean .nodes-fit);
       room-cuts = omega (arith, clean .cuts-fit);
     }
 
-    pub grown-told : (l : Lent) (next : Counts) → Segmented (take len (front .sums)) forbidden shared (x .n) count lentOf l next → TreeLeft x settings (Counted next) before (after l)
+    pub grown-told : (l : Lent) (next : Counts) → Segmented (take len (front .sums)) forbidden shared (x .n) count lentOf l next → TreeLeft x settings (Counted next count) before (after l)
     unfolding treeCall recordsOf
     grown-told l next segmented =
-        let h : Holds q lentOf l next = rw part at (segmented .by (seeded (x .n) layers) seeds-stand) in
+        let h : Holds q lentOf l next = rw part at (segmented .by segments segments-stand) in
         let made = grown q .made in
         record {
-          answer = ap Counted (h .counts) ∙ ap grownOf (answer-given (told .0) refl (countsOf q));
+          answer = rw (h .counts, told .2) (ap grownOf (answer-given (told .0) refl (countsOf q)));
           held = record {
             sums-are = said .held .sums-are;
-            rows-are = held-given (told .0) refl flatRows (seedRecords q ++ made) (before .rows) (h .rows ∙ rw (front-rows, rows-append (seedRecords q) made) (told-on (flatRows (seedRecords q)) (flatRows made) (before .rows)));
-            gains-are = held-given (told .0) refl gainsOf (seedRecords q ++ made) (before .gains) (h .gains ∙ rw (front-gains, gains-append (seedRecords q) made) (told-on (gainsOf (seedRecords q)) (gainsOf made) (before .gains)));
+            rows-are = held-given (told .0) refl flatRows (storedRecords q ++ made) (before .rows) (h .rows ∙ rw (front-rows, rows-append (storedRecords q) made) (told-on (flatRows (storedRecords q)) (flatRows made) (before .rows)));
+            gains-are = held-given (told .0) refl gainsOf (storedRecords q ++ made) (before .gains) (h .gains ∙ rw (front-gains, gains-append (storedRecords q) made) (told-on (gainsOf (storedRecords q)) (gainsOf made) (before .gains)));
           };
           nodes = held-given (told .0) refl (map toNode) (nodes 0 (treeOf q)) (before .nodes) (h .nodes);
           cuts = held-given (told .0) refl (λ c. c) (sheet (treeOf q)) (before .cuts) (h .cuts);
-          demand = λ c w. admitted a (sym (told .0));
+          demand = λ c k w. admitted a (sym (told .0));
         }

@@ -9,7 +9,7 @@ use Rattle.entry_tree.specs.declared.Grown.the-variants as grown
 
 abbrev pub grownOf : Answer Counts → Grown
 grownOf (refused k) = grown.Refused k
-grownOf (given c) = grown.Counted (record { nodes = c .nodes; records = c .records; cuts = c .cuts })
+grownOf (given c) = grown.Counted (record { nodes = c .nodes; records = c .records; cuts = c .cuts }) (c .stored)
 
 -- room for the nodes of any run: those of the most rows at m = 1, with the closed end
 abbrev pub nodeRoom : ℕ

@@ -38,7 +38,7 @@ pub record TreeLeft (x : Matrix) (s : Settings) (r : Grown) (before after : Slic
   pub held : Held (treeTold x s before .sums) (treeTold x s before .records) (recordSlices before) (recordSlices after)
   pub nodes : after .nodes ≡ holding (map toNode (treeTold x s before .nodes)) (before .nodes)
   pub cuts : after .cuts ≡ holding (treeTold x s before .cuts) (before .cuts)
-  pub demand : (c : Counts) → r ≡ grown.Counted c → Demand (runOf x s)
+  pub demand : (c : Counts) (stored : ℕ) → r ≡ grown.Counted c stored → Demand (runOf x s)
 
 -- ---- for a caller with no use for the nodes: their room is that of any run's
 abbrev pub pointsTold : Matrix → Settings → RecordSlices → List ℕ → TreeTold
@@ -49,4 +49,4 @@ pub record PointsLeft (x : Matrix) (s : Settings) (r : Grown) (before after : Re
   pub answer : r ≡ grownOf (pointsTold x s before cuts₀ .answer)
   pub held : Held (pointsTold x s before cuts₀ .sums) (pointsTold x s before cuts₀ .records) before after
   pub cuts : cuts₁ ≡ holding (pointsTold x s before cuts₀ .cuts) cuts₀
-  pub demand : (c : Counts) → r ≡ grown.Counted c → Demand (runOf x s)
+  pub demand : (c : Counts) (stored : ℕ) → r ≡ grown.Counted c stored → Demand (runOf x s)

@@ -10,14 +10,14 @@ use rows::Position;
 ghost use Rattle.control.specs.Settings.{settingsOf};
 ghost use Rattle.entry_tree.specs.Left.{TreeLeft, PointsLeft};
 
-// How many nodes, records and cuts were written, or the refusal's number.
+// How many nodes, records and cuts were written, and how many of the records are the stored segments'; or the refusal's number.
 pub enum Grown {
-    Counted(Counts),
+    Counted(Counts, usize),
     Refused(u32),
 }
 
 // The tree of the run: its nodes in preorder into `nodes`, its cuts from left to right into `cuts`; start, stop and best split of each record into `rows`,
-// its gain into `gains`, those of the seeded segments first. The prefix sums are left in `sums`.
+// its gain into `gains`, those of the stored segments first, which come from the layers or from the draws. The prefix sums are left in `sums`.
 pub fn binary_segmentation(
     cells: &[f64],
     n: usize,
@@ -25,13 +25,15 @@ pub fn binary_segmentation(
     settings: Settings,
     forbidden: &[usize],
     layers: &[f64],
+    draws: &[usize],
+    w: usize,
     sums: &mut [f64],
     rows: &mut [usize],
     gains: &mut [f64],
     nodes: &mut [Node],
     cuts: &mut [usize],
 ) -> Grown
-    ensures { λ r. ⌜ TreeLeft (record { cells = now (cells .entry); n = n; d = d }) (settingsOf settings (now (forbidden .entry)) (now (layers .entry))) r (record { sums = now (sums .entry); rows = now (rows .entry); gains = now (gains .entry); nodes = now (nodes .entry); cuts = now (cuts .entry) }) (record { sums = now (sums .exit); rows = now (rows .exit); gains = now (gains .exit); nodes = now (nodes .exit); cuts = now (cuts .exit) }) ⌝ }
+    ensures { λ r. ⌜ TreeLeft (record { cells = now (cells .entry); n = n; d = d }) (settingsOf settings (now (forbidden .entry)) (record { layers = now (layers .entry); draws = now (draws .entry); W = w })) r (record { sums = now (sums .entry); rows = now (rows .entry); gains = now (gains .entry); nodes = now (nodes .entry); cuts = now (cuts .entry) }) (record { sums = now (sums .exit); rows = now (rows .exit); gains = now (gains .exit); nodes = now (nodes .exit); cuts = now (cuts .exit) }) ⌝ }
 {
     match prepared::prepare(
         cells,
@@ -40,6 +42,8 @@ pub fn binary_segmentation(
         settings,
         forbidden,
         layers,
+        draws,
+        w,
         sums,
         rows,
         gains,
@@ -47,9 +51,9 @@ pub fn binary_segmentation(
         cuts.len(),
     ) {
         Prepared::Refused(no) => Grown::Refused(no),
-        Prepared::Seeded(len, count) => {
+        Prepared::Stored(len, count) => {
             let asked = Asked { d, settings };
-            Grown::Counted(tree::binary_segmentation(
+            let counts = tree::binary_segmentation(
                 &sums[..len],
                 forbidden,
                 asked,
@@ -59,7 +63,8 @@ pub fn binary_segmentation(
                 nodes,
                 cuts,
                 count,
-            ))
+            );
+            Grown::Counted(counts, count)
         }
     }
 }
@@ -75,12 +80,14 @@ pub fn split_points(
     settings: Settings,
     forbidden: &[usize],
     layers: &[f64],
+    draws: &[usize],
+    w: usize,
     sums: &mut [f64],
     rows: &mut [usize],
     gains: &mut [f64],
     cuts: &mut [usize],
 ) -> Grown
-    ensures { λ r. ⌜ PointsLeft (record { cells = now (cells .entry); n = n; d = d }) (settingsOf settings (now (forbidden .entry)) (now (layers .entry))) r (record { sums = now (sums .entry); rows = now (rows .entry); gains = now (gains .entry) }) (record { sums = now (sums .exit); rows = now (rows .exit); gains = now (gains .exit) }) (now (cuts .entry)) (now (cuts .exit)) ⌝ }
+    ensures { λ r. ⌜ PointsLeft (record { cells = now (cells .entry); n = n; d = d }) (settingsOf settings (now (forbidden .entry)) (record { layers = now (layers .entry); draws = now (draws .entry); W = w })) r (record { sums = now (sums .entry); rows = now (rows .entry); gains = now (gains .entry) }) (record { sums = now (sums .exit); rows = now (rows .exit); gains = now (gains .exit) }) (now (cuts .entry)) (now (cuts .exit)) ⌝ }
 {
     let mut nodes = [Node::without_choice(Position(0), Position(0)); MOST_NODES];
     binary_segmentation(
@@ -90,6 +97,8 @@ pub fn split_points(
         settings,
         forbidden,
         layers,
+        draws,
+        w,
         sums,
         rows,
         gains,

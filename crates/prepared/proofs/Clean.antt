@@ -1,13 +1,11 @@
 -- What holds where a call for the tree is not refused. Assumes nothing.
 use mathlib.Core.Path.{_≡_}
-use mathlib.Core.Bool.{false}
 use Prim.Native.Nat.{ℕ, _+_, _-_, _/_, _≤_}
 use native.Mathlib.Omega.{arith}
 use borrow.Author.Tests.{ltb-false, le-ltb}
-use Rattle.scope.specs.Refusals.{wrongLayers}
-use Rattle.scope.specs.Layers.{layersTotal}
+use Rattle.scope.specs.Draws.{mostStored}
 use Rattle.scope.specs.Tree.{mostNodes}
-use Rattle.scope.specs.Calls.{SeededAsked, seededRefusal, TreeAsked, treeTests, treeRefusal}
+use Rattle.scope.specs.Calls.{StoredAsked, storedRefusal, TreeAsked, treeTests, treeRefusal}
 use Rattle.change_in_mean.proofs.Room.{SumsClean, sums-clean}
 use Rattle.scope.proofs.Candidates.{not-outside}
 use Rattle.control.proofs.Clean.{passed}
@@ -19,8 +17,7 @@ most a = mostNodes (a .matrix .n) (a .settings .shortest)
 pub record TreeClean (a : TreeAsked) : Type 0 where
   pub sums : SumsClean (a .matrix) (a .room .sums)
   pub lengths : (1 ≤ a .settings .shortest .m) × (a .settings .shortest .m ≤ 4096)
-  pub layers-right : wrongLayers (a .settings .layers) ≡ false
-  pub records-fit : layersTotal (a .settings .layers) + mostNodes (a .matrix .n) (a .settings .shortest) ≤ a .room .records
+  pub records-fit : mostStored (a .settings .source) + mostNodes (a .matrix .n) (a .settings .shortest) ≤ a .room .records
   pub nodes-fit : mostNodes (a .matrix .n) (a .settings .shortest) ≤ a .room .nodes
   pub cuts-fit : (mostNodes (a .matrix .n) (a .settings .shortest) - 1) / 2 ≤ a .room .cuts
 
@@ -28,27 +25,28 @@ pub tree-clean : (a : TreeAsked) → treeRefusal a ≡ 0 → TreeClean a
 unfolding treeRefusal
 tree-clean a e =
     let p = passed (treeTests a) tt e in
-    let room = p .1 .1 .1 .1 .1 .1 in
+    let room = p .1 .1 .1 .1 .1 .1 .1 .1 .1 in
     record {
       sums = sums-clean (a .matrix) (a .room .sums) (p .0) (room .0);
       lengths = not-outside 4096 (a .settings .shortest .m) (p .1 .0);
-      layers-right = p .1 .1 .1 .1 .1 .0;
-      records-fit = ltb-false (a .room .records) (layersTotal (a .settings .layers) + most a) (room .1 .0);
+      records-fit = ltb-false (a .room .records) (mostStored (a .settings .source) + most a) (room .1 .0);
       nodes-fit = ltb-false (a .room .nodes) (most a) (room .1 .1 .0);
       cuts-fit = ltb-false (a .room .cuts) ((most a - 1) / 2) (room .1 .1 .1 .0);
     }
 
--- its seeded segments, in the room for all records
-abbrev pub seedsAsked : TreeAsked → SeededAsked
-seedsAsked a =
-    record { matrix = a .matrix; shortest = a .settings .shortest; forbidden = a .settings .forbidden; layers = a .settings .layers; sums = a .room .sums; records = a .room .records }
+-- its stored segments, in the room for all records
+abbrev pub segmentsAsked : TreeAsked → StoredAsked
+segmentsAsked a =
+    record { matrix = a .matrix; shortest = a .settings .shortest; forbidden = a .settings .forbidden; source = a .settings .source; sums = a .room .sums; records = a .room .records }
 
 -- are not refused either
-pub tree-seeds : (a : TreeAsked) → treeRefusal a ≡ 0 → seededRefusal (seedsAsked a) ≡ 0
-unfolding treeRefusal seededRefusal
-tree-seeds a e =
+pub tree-segments : (a : TreeAsked) → treeRefusal a ≡ 0 → storedRefusal (segmentsAsked a) ≡ 0
+unfolding treeRefusal storedRefusal
+tree-segments a e =
     let p = passed (treeTests a) tt e in
-    let room = p .1 .1 .1 .1 .1 .1 in
-    let total = ltb-false (a .room .records) (layersTotal (a .settings .layers) + most a) (room .1 .0) in
-    let fits = le-ltb (a .room .records) (layersTotal (a .settings .layers)) (omega (arith, total)) in
-    rw (p .0, p .1 .0, p .1 .1 .1 .0, p .1 .1 .1 .1 .0, p .1 .1 .1 .1 .1 .0, room .0, fits)
+    let values = p .1 .1 .1 in
+    let source = values .1 .1 in
+    let room = source .1 .1 .1 .1 in
+    let total = ltb-false (a .room .records) (mostStored (a .settings .source) + most a) (room .1 .0) in
+    let fits = le-ltb (a .room .records) (mostStored (a .settings .source)) (omega (arith, total)) in
+    rw (p .0, p .1 .0, values .0, values .1 .0, source .0, source .1 .0, source .1 .1 .0, source .1 .1 .1 .0, room .0, fits, room .1 .1 .1 .1 .0)

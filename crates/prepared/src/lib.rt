@@ -1,4 +1,4 @@
-// A call for the tree, up to its growing: judged, and where nothing is refused the prefix sums and the seeded segments' records stored.
+// A call for the tree, up to its growing: judged, and where nothing is refused the prefix sums and the stored segments' records stored.
 // Inside the library.
 use control::Settings;
 ghost use mathlib.Core.Path.{_≡_};
@@ -7,7 +7,7 @@ ghost use Rattle.control.specs.Settings.{settingsOf};
 ghost use Rattle.prepared.specs.Answers.{treeAsked, Prepares};
 
 // The number that applies to a call for the tree, or 0: B nodes and (B-1)/2 cuts at most, and a record for each node beside those of the
-// seeded segments.
+// stored segments.
 pub fn tree_refusal(
     cells: &[f64],
     n: usize,
@@ -15,12 +15,14 @@ pub fn tree_refusal(
     settings: Settings,
     forbidden: &[usize],
     layers: &[f64],
+    draws: &[usize],
+    w: usize,
     sums: usize,
     records: usize,
     nodes: usize,
     cuts: usize,
 ) -> u32
-    ensures { λ r. ⌜ r ≡ treeRefusal (record { matrix = record { cells = now (cells .entry); n = n; d = d }; settings = settingsOf settings (now (forbidden .entry)) (now (layers .entry)); room = record { sums = sums; records = records; nodes = nodes; cuts = cuts } }) ⌝ }
+    ensures { λ r. ⌜ r ≡ treeRefusal (record { matrix = record { cells = now (cells .entry); n = n; d = d }; settings = settingsOf settings (now (forbidden .entry)) (record { layers = now (layers .entry); draws = now (draws .entry); W = w }); room = record { sums = sums; records = records; nodes = nodes; cuts = cuts } }) ⌝ }
 {
     let shortest = settings.shortest;
     let sizes = control::sizes_refusal(cells, n, d, shortest);
@@ -34,14 +36,15 @@ pub fn tree_refusal(
     if values != 0 {
         return values;
     }
-    if layers::wrong_layers(layers) {
-        return 6;
+    let source = draws::source_refusal(layers, draws, w);
+    if source != 0 {
+        return source;
     }
     if sums < control::sums_len(n, d) {
         return 7;
     }
     let most = control::most_nodes(n, shortest);
-    if records < layers::layers_total(layers) + most {
+    if records < draws::most_stored(layers, draws, w) + most {
         return 7;
     }
     if nodes < most {
@@ -50,16 +53,19 @@ pub fn tree_refusal(
     if cuts < (most - 1) / 2 {
         return 7;
     }
+    if draws::any_past(draws, n) {
+        return 8;
+    }
     0
 }
 
-// How many prefix sums there are, and how many records the seeded segments left; or the refusal's number.
+// How many prefix sums there are, and how many records the stored segments left; or the refusal's number.
 pub enum Prepared {
-    Seeded(usize, usize),
+    Stored(usize, usize),
     Refused(u32),
 }
 
-// Judges every refusal of a call for the tree; then the prefix sums and the seeded segments' records, which the tree is grown behind.
+// Judges every refusal of a call for the tree; then the prefix sums and the stored segments' records, which the tree is grown behind.
 pub fn prepare(
     cells: &[f64],
     n: usize,
@@ -67,13 +73,15 @@ pub fn prepare(
     settings: Settings,
     forbidden: &[usize],
     layers: &[f64],
+    draws: &[usize],
+    w: usize,
     sums: &mut [f64],
     rows: &mut [usize],
     gains: &mut [f64],
     nodes: usize,
     cuts: usize,
 ) -> Prepared
-    ensures { λ r. ⌜ Prepares (treeAsked (record { cells = now (cells .entry); n = n; d = d }) (settingsOf settings (now (forbidden .entry)) (now (layers .entry))) (record { sums = now (sums .entry); rows = now (rows .entry); gains = now (gains .entry) }) nodes cuts) r (record { sums = now (sums .entry); rows = now (rows .entry); gains = now (gains .entry) }) (record { sums = now (sums .exit); rows = now (rows .exit); gains = now (gains .exit) }) ⌝ }
+    ensures { λ r. ⌜ Prepares (treeAsked (record { cells = now (cells .entry); n = n; d = d }) (settingsOf settings (now (forbidden .entry)) (record { layers = now (layers .entry); draws = now (draws .entry); W = w })) (record { sums = now (sums .entry); rows = now (rows .entry); gains = now (gains .entry) }) nodes cuts) r (record { sums = now (sums .entry); rows = now (rows .entry); gains = now (gains .entry) }) (record { sums = now (sums .exit); rows = now (rows .exit); gains = now (gains .exit) }) ⌝ }
 {
     let room = control::record_room(rows.len(), gains.len());
     let no = tree_refusal(
@@ -83,6 +91,8 @@ pub fn prepare(
         settings,
         forbidden,
         layers,
+        draws,
+        w,
         sums.len(),
         room,
         nodes,
@@ -92,17 +102,19 @@ pub fn prepare(
         return Prepared::Refused(no);
     }
     let shortest = settings.shortest;
-    let records = segmentation::store_seeded(
+    let records = segmentation::store_segments(
         cells,
         n,
         d,
         shortest,
         forbidden,
         layers,
+        draws,
+        w,
         sums,
         rows,
         gains,
     );
     let len = control::sums_len(n, d);
-    Prepared::Seeded(len, records)
+    Prepared::Stored(len, records)
 }

@@ -1,4 +1,5 @@
--- Laws of a search's answer and of the seeded segments' records.
+-- Laws of the stored segments' records.
 pub mod Stored
+pub mod Drawing
 pub mod Clean
 pub mod Held

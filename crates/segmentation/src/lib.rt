@@ -1,5 +1,5 @@
-// The seeded segments, searched beforehand: their records, in order, in lent memory. Inside the library.
-// After segmentation.rs, "SBS"; no layers means "BS".
+// The segments that are searched before a tree is grown, of layers or of draws: their records, in order, in lent memory. Inside the library.
+// After segmentation.rs, "SBS" and "WBS"; neither layers nor draws means "BS".
 use control::Shortest;
 use layers::Layer;
 use layers::Segment;
@@ -9,17 +9,17 @@ ghost use mathlib.Core.Path.{_≡_};
 ghost use mathlib.Core.Bool.{false};
 ghost use Prim.Native.Nat.{_+_, _*_, _<_, _≤_};
 ghost use lib.ListN.{length};
-ghost use Rattle.scope.specs.Lists.{holding};
 ghost use Rattle.scope.specs.Refusals.{wrongLayers};
 ghost use Rattle.scope.specs.Layers.{one, seeded, layerSegments, layersTotal};
-ghost use Rattle.scope.specs.Calls.{seededRefusal};
+ghost use Rattle.scope.specs.Draws.{drawRecord, drawn, storedSegments, mostStored};
+ghost use Rattle.scope.specs.Calls.{storedRefusal};
 ghost use Rattle.control.specs.Settings.{shortestOf};
-ghost use Rattle.stored.specs.Flat.{flatRows, gainsOf, Put};
-ghost use Rattle.layers.specs.Layer.{Made};
-ghost use Rattle.segmentation.specs.Seeds.{searchOver, storedOver, seededAsked, StoresSeeded};
+ghost use Rattle.stored.specs.Flat.{Put};
+ghost use Rattle.layers.specs.Layer.{segmentOf, Made};
+ghost use Rattle.segmentation.specs.Seeds.{searchOver, storedOver, Within, storedAsked, StoresSegments};
 
 // Searches a segment and stores its record at the place `at`; a segment that the search refuses leaves none. Tells the next place.
-fn seed_segment(
+fn store_segment(
     sums: &[f64],
     d: usize,
     shortest: Shortest,
@@ -51,7 +51,7 @@ fn seed_segment(
 }
 
 // The records of a layer's segments, stored from the place `at` on. Tells the next place.
-fn seed_layer(
+fn store_layer(
     sums: &[f64],
     d: usize,
     shortest: Shortest,
@@ -69,7 +69,7 @@ fn seed_layer(
     let mut next = at;
     let mut id = 0;
     while id < count {
-        next = seed_segment(
+        next = store_segment(
             sums,
             d,
             shortest,
@@ -84,8 +84,8 @@ fn seed_layer(
     next
 }
 
-// The stored records: those of all layers' segments, in order. Tells how many.
-pub fn seed_segments(
+// The records of all layers' segments, in order, stored from the start. Tells how many.
+fn store_layers(
     sums: &[f64],
     n: usize,
     d: usize,
@@ -98,32 +98,105 @@ pub fn seed_segments(
     requires { ⌜ (n ≤ 4096) × (shortest .m ≤ 4096) × ((n + 1) * d ≤ length (now sums)) ⌝ }
     requires { ⌜ wrongLayers (now layers) ≡ false ⌝ }
     requires { ⌜ (3 * layersTotal (now layers) ≤ length (now rows)) × (layersTotal (now layers) ≤ length (now gains)) ⌝ }
-    ensures count { λ r. ⌜ r ≡ length (storedOver (now (sums .entry)) d (shortestOf shortest) (now (forbidden .entry)) (seeded n (now (layers .entry)))) ⌝ }
-    ensures rows { λ r. ⌜ now (rows .exit) ≡ holding (flatRows (storedOver (now (sums .entry)) d (shortestOf shortest) (now (forbidden .entry)) (seeded n (now (layers .entry))))) (now (rows .entry)) ⌝ }
-    ensures gains { λ r. ⌜ now (gains .exit) ≡ holding (gainsOf (storedOver (now (sums .entry)) d (shortestOf shortest) (now (forbidden .entry)) (seeded n (now (layers .entry))))) (now (gains .entry)) ⌝ }
+    ensures { λ r. ⌜ Put (storedOver (now (sums .entry)) d (shortestOf shortest) (now (forbidden .entry)) (seeded n (now (layers .entry)))) 0 (now (rows .entry)) (now (gains .entry)) (now (rows .exit)) (now (gains .exit)) r ⌝ }
 {
     let mut count = 0;
     let mut i = 0;
     while i < layers.len() {
         let layer = Layer::new(n, layers[i]);
-        count = seed_layer(sums, d, shortest, forbidden, layer, rows, gains, count);
+        count = store_layer(sums, d, shortest, forbidden, layer, rows, gains, count);
         i += 1;
     }
     count
 }
 
-// The number that applies to a call for the seeded segments' records, or 0: each takes three row numbers and one gain.
-pub fn seeded_refusal(
+// The record of a draw, stored at the place `at`; one that is passed over leaves none. Tells the next place.
+fn store_draw(
+    sums: &[f64],
+    d: usize,
+    shortest: Shortest,
+    forbidden: &[usize],
+    draw: Segment,
+    rows: &mut [usize],
+    gains: &mut [f64],
+    at: usize,
+) -> usize
+    requires { ⌜ (draw .stop .0 ≤ 4096) × (shortest .m ≤ 4096) × ((draw .stop .0 + 1) * d ≤ length (now sums)) ⌝ }
+    requires { ⌜ (3 * at + 3 ≤ length (now rows)) × (at < length (now gains)) ⌝ }
+    ensures { λ r. ⌜ Put (one (drawRecord (searchOver (now (sums .entry)) d (shortestOf shortest) (now (forbidden .entry))) (segmentOf draw))) at (now (rows .entry)) (now (gains .entry)) (now (rows .exit)) (now (gains .exit)) r ⌝ }
+{
+    if !draws::is_searched(draw) {
+        return at;
+    }
+    store_segment(sums, d, shortest, forbidden, draw, rows, gains, at)
+}
+
+// The records of the draws, in order, stored from the start until w stand or the list ends. Tells how many.
+fn store_draws(
+    sums: &[f64],
+    d: usize,
+    shortest: Shortest,
+    forbidden: &[usize],
+    draws: &[usize],
+    w: usize,
+    rows: &mut [usize],
+    gains: &mut [f64],
+) -> usize
+    requires { ⌜ (shortest .m ≤ 4096) × Within (now draws) d (length (now sums)) ⌝ }
+    requires { ⌜ (3 * w ≤ length (now rows)) × (w ≤ length (now gains)) ⌝ }
+    ensures { λ r. ⌜ Put (storedOver (now (sums .entry)) d (shortestOf shortest) (now (forbidden .entry)) (drawn (searchOver (now (sums .entry)) d (shortestOf shortest) (now (forbidden .entry))) (now (draws .entry)) w)) 0 (now (rows .entry)) (now (gains .entry)) (now (rows .exit)) (now (gains .exit)) r ⌝ }
+{
+    let mut count = 0;
+    let mut i = 0;
+    while i + 1 < draws.len() {
+        if count >= w {
+            return count;
+        }
+        let draw = draws::draw_at(draws, i);
+        count = store_draw(sums, d, shortest, forbidden, draw, rows, gains, count);
+        i += 2;
+    }
+    count
+}
+
+// The stored records: those of the draws where there are any, else those of the layers. Tells how many.
+fn store_records(
+    sums: &[f64],
+    n: usize,
+    d: usize,
+    shortest: Shortest,
+    forbidden: &[usize],
+    layers: &[f64],
+    draws: &[usize],
+    w: usize,
+    rows: &mut [usize],
+    gains: &mut [f64],
+) -> usize
+    requires { ⌜ (n ≤ 4096) × (shortest .m ≤ 4096) × ((n + 1) * d ≤ length (now sums)) ⌝ }
+    requires { ⌜ (wrongLayers (now layers) ≡ false) × Within (now draws) d (length (now sums)) ⌝ }
+    requires { ⌜ (3 * mostStored (record { layers = now layers; draws = now draws; W = w }) ≤ length (now rows)) × (mostStored (record { layers = now layers; draws = now draws; W = w }) ≤ length (now gains)) ⌝ }
+    ensures { λ r. ⌜ Put (storedOver (now (sums .entry)) d (shortestOf shortest) (now (forbidden .entry)) (storedSegments (searchOver (now (sums .entry)) d (shortestOf shortest) (now (forbidden .entry))) n (record { layers = now (layers .entry); draws = now (draws .entry); W = w }))) 0 (now (rows .entry)) (now (gains .entry)) (now (rows .exit)) (now (gains .exit)) r ⌝ }
+{
+    if draws.len() == 0 {
+        return store_layers(sums, n, d, shortest, forbidden, layers, rows, gains);
+    }
+    store_draws(sums, d, shortest, forbidden, draws, w, rows, gains)
+}
+
+// The number that applies to a call for the stored segments' records, or 0: each takes three row numbers and one gain.
+pub fn stored_refusal(
     cells: &[f64],
     n: usize,
     d: usize,
     shortest: Shortest,
     forbidden: &[usize],
     layers: &[f64],
+    draws: &[usize],
+    w: usize,
     sums: usize,
     records: usize,
 ) -> u32
-    ensures { λ r. ⌜ r ≡ seededRefusal (record { matrix = record { cells = now (cells .entry); n = n; d = d }; shortest = shortestOf shortest; forbidden = now (forbidden .entry); layers = now (layers .entry); sums = sums; records = records }) ⌝ }
+    ensures { λ r. ⌜ r ≡ storedRefusal (record { matrix = record { cells = now (cells .entry); n = n; d = d }; shortest = shortestOf shortest; forbidden = now (forbidden .entry); source = record { layers = now (layers .entry); draws = now (draws .entry); W = w }; sums = sums; records = records }) ⌝ }
 {
     let sizes = control::sizes_refusal(cells, n, d, shortest);
     if sizes != 0 {
@@ -133,34 +206,51 @@ pub fn seeded_refusal(
     if values != 0 {
         return values;
     }
-    if layers::wrong_layers(layers) {
-        return 6;
+    let source = draws::source_refusal(layers, draws, w);
+    if source != 0 {
+        return source;
     }
     if sums < control::sums_len(n, d) {
         return 7;
     }
-    if records < layers::layers_total(layers) {
+    if records < draws::most_stored(layers, draws, w) {
         return 7;
+    }
+    if draws::any_past(draws, n) {
+        return 8;
     }
     0
 }
 
-// What is stored once nothing is refused: the prefix sums, and the records of the seeded segments. Tells how many records.
-pub fn store_seeded(
+// What is stored once nothing is refused: the prefix sums, and the records of the stored segments. Tells how many records.
+pub fn store_segments(
     cells: &[f64],
     n: usize,
     d: usize,
     shortest: Shortest,
     forbidden: &[usize],
     layers: &[f64],
+    draws: &[usize],
+    w: usize,
     sums: &mut [f64],
     rows: &mut [usize],
     gains: &mut [f64],
 ) -> usize
-    requires { ⌜ seededRefusal (seededAsked (record { cells = now cells; n = n; d = d }) (shortestOf shortest) (now forbidden) (now layers) (record { sums = now sums; rows = now rows; gains = now gains })) ≡ 0 ⌝ }
-    ensures { λ r. ⌜ StoresSeeded (record { cells = now (cells .entry); n = n; d = d }) (shortestOf shortest) (now (forbidden .entry)) (now (layers .entry)) r (record { sums = now (sums .entry); rows = now (rows .entry); gains = now (gains .entry) }) (record { sums = now (sums .exit); rows = now (rows .exit); gains = now (gains .exit) }) ⌝ }
+    requires { ⌜ storedRefusal (storedAsked (record { cells = now cells; n = n; d = d }) (shortestOf shortest) (now forbidden) (record { layers = now layers; draws = now draws; W = w }) (record { sums = now sums; rows = now rows; gains = now gains })) ≡ 0 ⌝ }
+    ensures { λ r. ⌜ StoresSegments (record { cells = now (cells .entry); n = n; d = d }) (shortestOf shortest) (now (forbidden .entry)) (record { layers = now (layers .entry); draws = now (draws .entry); W = w }) r (record { sums = now (sums .entry); rows = now (rows .entry); gains = now (gains .entry) }) (record { sums = now (sums .exit); rows = now (rows .exit); gains = now (gains .exit) }) ⌝ }
 {
     change_in_mean::calculate_cumsum(cells, d, sums);
     let len = control::sums_len(n, d);
-    seed_segments(&sums[..len], n, d, shortest, forbidden, layers, rows, gains)
+    store_records(
+        &sums[..len],
+        n,
+        d,
+        shortest,
+        forbidden,
+        layers,
+        draws,
+        w,
+        rows,
+        gains,
+    )
 }

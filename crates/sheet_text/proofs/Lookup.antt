@@ -1,4 +1,4 @@
--- Of the records made in a run without seeds, the first that splits at a cut's row is the one chosen there. Assumes nothing.
+-- Of the records made in a run without stored segments, the first that splits at a cut's row is the one chosen there. Assumes nothing.
 use mathlib.Core.Path.{_≡_, refl, _∙_}
 use mathlib.Core.Logic.{⊎-elim}
 use mathlib.Core.Bool.{Bool, true, false, cond}
@@ -11,7 +11,7 @@ use lib.Dec.{eqb}
 use Rattle.scope.specs.Lists.{_∈_}
 use Rattle.scope.specs.Grid.{Record, best, blank, trial, trials}
 use Rattle.scope.specs.Layers.{one}
-use Rattle.scope.specs.Tree.{Run, direct, seedRecords, inside, choice, chosen, cut, Tree, cuts, sheet, treeOf, recordsOf}
+use Rattle.scope.specs.Tree.{Run, direct, storedRecords, inside, choice, chosen, cut, Tree, cuts, sheet, treeOf, recordsOf}
 use Rattle.scope.specs.Program.{cutLines}
 use Rattle.demand.specs.Reached.{ruling}
 use Rattle.demand.specs.Grows.{Grows, asLeaf, asNode, directs}
@@ -74,11 +74,11 @@ module _ (q : Run) (least : 1 ≤ q .shortest .m) where
       (λ (j : r ∈ c ∷ cuts u). ⊎-elim (λ (e : r ≡ c). rw e (omega arith, omega arith)) (λ (k : r ∈ cuts u). let w = cuts-between (c .split) stop u y r k in (omega arith, w .1)) (List·Memᴰ·cases-cons j))
       (List·Memᴰ·append-cases (cuts l) i)
 
-  -- ---- without seeds the chosen record is the direct one
-  module _ (no-seeds : seedRecords q ≡ []) where
+  -- ---- without stored segments the chosen record is the direct one
+  module _ (no-segments : storedRecords q ≡ []) where
     cut-direct : (start stop : ℕ) (c : Record) → ruling q start stop ≡ cut c → direct q start stop ≡ some c
     unfolding choice inside best
-    cut-direct start stop c h = go (direct q start stop) (rw no-seeds at (cut-choice q start stop c h .0))
+    cut-direct start stop c h = go (direct q start stop) (rw no-segments at (cut-choice q start stop c h .0))
       where
         go : (o : Option Record) → chosen o [] ≡ some c → o ≡ some c
         go none e = never (cc)
@@ -105,7 +105,7 @@ module _ (q : Run) (least : 1 ≤ q .shortest .m) where
 
     first-made : 1 ≤ q .n → (r : Record) → r ∈ cuts (treeOf q) → firstAt (r .split) (recordsOf q) ≡ some r
     unfolding recordsOf
-    first-made nonempty r i = rw (no-seeds, grown-made q least nonempty) (first-cut 0 (q .n) (treeOf q) (grown-grows q least nonempty) r i)
+    first-made nonempty r i = rw (no-segments, grown-made q least nonempty) (first-cut 0 (q .n) (treeOf q) (grown-grows q least nonempty) r i)
 
 -- ---- so each cut's line is that of the first record at its row
 lines-of : (rs cs : List Record) → ((r : Record) → r ∈ cs → firstAt (r .split) rs ≡ some r) → linesOf rs (map (λ (r : Record). r .split) cs) ≡ cutLines cs
@@ -114,6 +114,6 @@ lines-of rs [] h = refl
 lines-of rs (c ∷ cs) h = rw (h c (List·Memᴰ·head refl), lines-of rs cs (λ r i. h r (List·Memᴰ·tail i)))
 
 -- THE LAW: the rows of the sheet, looked up among the records made, give the lines of the chosen records
-pub lines-are : (q : Run) → 1 ≤ q .shortest .m → 1 ≤ q .n → seedRecords q ≡ [] → linesOf (recordsOf q) (sheet (treeOf q)) ≡ cutLines (cuts (treeOf q))
+pub lines-are : (q : Run) → 1 ≤ q .shortest .m → 1 ≤ q .n → storedRecords q ≡ [] → linesOf (recordsOf q) (sheet (treeOf q)) ≡ cutLines (cuts (treeOf q))
 unfolding sheet
 lines-are q least nonempty none-stored = lines-of (recordsOf q) (cuts (treeOf q)) (first-made q least none-stored nonempty)

@@ -53,22 +53,22 @@ significantOr (given t) before = t .significant
 
 -- ---- the tree
 
--- the nodes that are lent on beside so many counts: none where those are less than three
+-- the nodes that are lent on beside so many counts: none where those are less than four
 unfoldable pub countedRoom : ℕ → ℕ → ℕ
-countedRoom nodes counts = cond (ltb counts 3) 0 nodes
+countedRoom nodes counts = cond (ltb counts 4) 0 nodes
 
--- three counts in a lent slice, as far as it has room
-abbrev pub threeIn : ℕ → ℕ → ℕ → List ℕ → List ℕ
-threeIn nodes records cuts before = set (set (set before 0 nodes) 1 records) 2 cuts
+-- four counts in a lent slice, as far as it has room
+abbrev pub fourIn : ℕ → ℕ → ℕ → ℕ → List ℕ → List ℕ
+fourIn nodes records cuts stored before = set (set (set (set before 0 nodes) 1 records) 2 cuts) 3 stored
 
 -- the number, and the counts, of the enum that the entry point answers with
 abbrev pub grownNumber : Grown → ℕ
 grownNumber (grown.Refused k) = k
-grownNumber (grown.Counted c) = 0
+grownNumber (grown.Counted c stored) = 0
 
 abbrev pub grownCounts : Grown → List ℕ → List ℕ
 grownCounts (grown.Refused k) before = before
-grownCounts (grown.Counted c) before = threeIn (c .nodes) (c .records) (c .cuts) before
+grownCounts (grown.Counted c stored) before = fourIn (c .nodes) (c .records) (c .cuts) stored before
 
 -- what `tell` answers, and stores
 pub record GrownTold (g : Grown) (r : ℕ) (counts₀ counts₁ : List ℕ) : Type 0 where

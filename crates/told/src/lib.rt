@@ -7,12 +7,12 @@ ghost use lib.ListN.{getD, set};
 ghost use Rattle.two_step_search.specs.Guessed.{rowsOf};
 ghost use Rattle.told.specs.Told.{countedRoom, GrownTold};
 
-// How many of the nodes that a host lends are lent on: none where it lends less than three counts, so that a tree that nothing lower refuses is
+// How many of the nodes that a host lends are lent on: none where it lends less than four counts, so that a tree that nothing lower refuses is
 // refused by 7.
 pub fn counted_room(nodes: usize, counts: usize) -> usize
     ensures { λ r. ⌜ (r ≡ countedRoom nodes counts) × (r ≤ nodes) ⌝ }
 {
-    if counts < 3 {
+    if counts < 4 {
         return 0;
     }
     nodes
@@ -33,10 +33,11 @@ pub fn tell(grown: Grown, counts: &mut [usize]) -> u32
     ensures { λ r. ⌜ GrownTold grown r (now (counts .entry)) (now (counts .exit)) ⌝ }
 {
     match grown {
-        Grown::Counted(found) => {
+        Grown::Counted(found, stored) => {
             put(counts, 0, found.nodes);
             put(counts, 1, found.records);
             put(counts, 2, found.cuts);
+            put(counts, 3, stored);
             0
         }
         Grown::Refused(no) => no,

@@ -31,7 +31,7 @@ returns-2 c =
 sheet : (c : tie.After-counts) → let s = c .before .before .before .before .before .before .before .before .before .before .before .before .args in let l = c .before .before .grow .last .1 .1 .1 .1 in Sheeted (s .deck) (now (s .cells)) (now (s .forbidden)) (judged (c .before .before .before .before .before .before .before .before .before)) (l .0) (l .1 .0) (l .1 .1 .0) (c .counts .given .0 .0)
 sheet c =
     let s = c .before .before .before .before .before .before .before .before .before .before .before .before .args in
-    sheeted (s .deck) (now (s .cells)) (now (s .forbidden)) (judged (c .before .before .before .before .before .before .before .before .before)) (now (s .rows)) (now (s .gains)) (now (s .cuts)) _ _ _ _ (rw (c .counts .given .1) at (c .before .before .grow .ensures))
+    sheeted (s .deck) (now (s .cells)) (now (s .forbidden)) (judged (c .before .before .before .before .before .before .before .before .before)) (now (s .rows)) (now (s .gains)) (now (s .cuts)) _ _ _ _ _ (rw (c .counts .given .1) at (c .before .before .grow .ensures))
 
 put-sheet-requires : tie.Need-put-sheet-requires
 put-sheet-requires c κs = let w = sheet (c .before .before .before .before .before .before .before .before) in (omega (arith, w .few-cuts), omega (arith, w .few-cuts), omega (arith, w .few-records), omega (arith, w .few-records))

@@ -27,9 +27,9 @@ slice-aggregate-split-points-2 c = let f = facts (c .before .before .before .bef
 
 returns : tie.Need-returns
 returns c =
-    let s = c .before .before .before .before .before .before .before .before .before .before .before .before .before in
+    let s = c .before .before .before .before .before .before .before .before .before .before .before .before .before .before in
     let a = s .args in
-    grew (a .deck) (now (a .cells)) (now (a .forbidden)) _ (c .before .before .before .before .before .before .before .before .threshold .ensures) _ _ _ _ _ (c .split-points .ensures) (omega arith) (omega arith) (omega arith) (omega arith)
+    grew (a .deck) (now (a .cells)) (now (a .forbidden)) _ (c .before .before .before .before .before .before .before .before .before .threshold .ensures) _ _ _ _ _ (c .split-points .ensures) (omega arith) (omega arith) (omega arith) (omega arith)
 
 pub grow-spec : {M : Type 1} → statement M
 grow-spec =
@@ -40,6 +40,7 @@ grow-spec =
     (λ c κs. search needs)
     slice-aggregate-split-points
     slice-aggregate-split-points-2
+    (λ c. search needs)
     (λ c. search needs)
     (λ c κs. search needs)
     returns)

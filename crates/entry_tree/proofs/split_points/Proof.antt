@@ -55,8 +55,8 @@ told x s r before after len said =
 module _ {M : Type 1} (𝓤 : URA M) (H : Heap 𝓤) (A : Atoms 𝓤) (W : Given 𝓤 H A) (𝓣 : Tables 𝓤 H) (known-blank : Known 𝓤 H A W blanking (𝓣 .C #blank)) (known-tree : Known 𝓤 H A W answering (𝓣 .C #tree)) where
   walk : (xs : Args (splitting .ks)) → Walked 𝓤 H A W splitting (𝓣 .C) (𝓣 .Λ) code.function refl xs
   walk xs good asked pl =
-      let (cells, (n, (d, (s, (forbidden, (layers, (sums, (rows, (gains, (cuts, _)))))))))) = xs in
-      let (X, (n-fits, (d-fits, (s-fits, (F, (L, (S, (R, (G, (K, _)))))))))) = good in
+      let (cells, (n, (d, (s, (forbidden, (layers, (draws, (w, (sums, (rows, (gains, (cuts, _)))))))))))) = xs in
+      let (X, (n-fits, (d-fits, (s-fits, (F, (L, (D, (w-fits, (S, (R, (G, (K, _)))))))))))) = good in
       let first-fits = position-fits 0 zero-fits in
       let typed-first = position .lawful 𝓤 H A W .typed _ _ first-fits .0 in
       let ends : Args (blanking .ks) = (record { 0 = 0 }, (record { 0 = 0 }, tt)) in
@@ -64,15 +64,15 @@ module _ {M : Type 1} (𝓤 : URA M) (H : Heap 𝓤) (A : Atoms 𝓤) (W : Given
       calls 𝓤 H A W blanking ends (first-fits, (first-fits, tt)) tt ! 0 refl (fmOf 𝓤 H (W .laws) 𝓣) (known-blank ends) refl refl refl (λ x _ made.
       fills ! node refl (made .is) refl (λ l a is.
       reborrows ! refl refl refl refl refl ▸ reborrows ! refl refl refl refl refl ▸ reborrows ! refl refl refl refl refl ▸ address ! refl refl ▸ builds ! refl refl (tt, (tt, (record { fits = room .0 }, tt))) ▸ reborrows ! refl refl refl refl refl ▸
-      lends-array ! node 12 11 l refl refl is tt room (λ ν γ.
-      let nodes = whole 8191 (pl .1 .1 .1 .1 .1 .1 .1 .1 .1 .1 .1 .0) ν γ l in
-      let args : Args (answering .ks) = (cells, (n, (d, (s, (forbidden, (layers, (sums, (rows, (gains, (nodes, (cuts, tt))))))))))) in
+      lends-array ! node 14 13 l refl refl is tt room (λ ν γ.
+      let nodes = whole 8191 (pl .1 .1 .1 .1 .1 .1 .1 .1 .1 .1 .1 .1 .1 .0) ν γ l in
+      let args : Args (answering .ks) = (cells, (n, (d, (s, (forbidden, (layers, (draws, (w, (sums, (rows, (gains, (nodes, (cuts, tt))))))))))))) in
       let len = is .1 .0 .1 in
-      calls 𝓤 H A W answering args (X, (n-fits, (d-fits, (s-fits, (F, (L, (S, (R, (G, ((len, room), (K, tt))))))))))) tt ! 1 refl (fmOf 𝓤 H (W .laws) 𝓣) (known-tree args) refl refl refl (λ r ws ret.
-      let (_, (_, (_, (_, (_, (_, (sums′, (rows′, (gains′, (nodes′, (cuts′, _))))))))))) = ws in
+      calls 𝓤 H A W answering args (X, (n-fits, (d-fits, (s-fits, (F, (L, (D, (w-fits, (S, (R, (G, ((len, room), (K, tt))))))))))))) tt ! 1 refl (fmOf 𝓤 H (W .laws) 𝓣) (known-tree args) refl refl refl (λ r ws ret.
+      let (_, (_, (_, (_, (_, (_, (_, (_, (sums′, (rows′, (gains′, (nodes′, (cuts′, _))))))))))))) = ws in
       let (same-sums, (same-rows, (same-gains, (_, (same-cuts, _))))) = ret .long in
-      array-back ! node 12 11 nodes′ refl refl (λ a′ is′.
-      returning ! refl refl (finishes 𝓤 H A W splitting xs r (tt, (tt, (tt, (tt, (tt, (tt, (sums′, (rows′, (gains′, (cuts′, tt)))))))))) (ret .is) (same-sums, (same-rows, (same-gains, (same-cuts, tt))))
+      array-back ! node 14 13 nodes′ refl refl (λ a′ is′.
+      returning ! refl refl (finishes 𝓤 H A W splitting xs r (tt, (tt, (tt, (tt, (tt, (tt, (tt, (tt, (sums′, (rows′, (gains′, (cuts′, tt)))))))))))) (ret .is) (same-sums, (same-rows, (same-gains, (same-cuts, tt))))
       (told _ _ r (record { sums = sums .list; rows = rows .list; gains = gains .list; nodes = l; cuts = cuts .list }) (record { sums = sums′; rows = rows′; gains = gains′; nodes = nodes′; cuts = cuts′ }) (len ∙ sym room-is) (ret .said))))))))
 
   split-points-meets : (mem : Memory → SProp 𝓤) (run : Routine → Fun 𝓤) → Meets 𝓤 H A f.signature (WpFn 𝓤 H (𝓣 .C) (𝓣 .Λ) code.function) (f.spec 𝓤 H A mem run)

@@ -1,17 +1,17 @@
--- `prepare` meets its contract: a number, and nothing is told; or the records of the seeded segments, with the sums left.
+-- `prepare` meets its contract: a number, and nothing is told; or the records of the stored segments, with the sums left.
 use mathlib.Core.Path.{_≡_, refl, sym, _∙_, ap}
 use Prim.Native.Nat.{ℕ}
 use denote.Ref.{now}
 use lib.ListN.{length}
-use Rattle.scope.specs.Tree.{seedRecords}
+use Rattle.scope.specs.Tree.{storedRecords}
 use Rattle.scope.specs.Calls.{sumsOf, sumsRoom, TreeAsked, treeRefusal}
 use Rattle.control.specs.Settings.{settingsOf}
 use Rattle.control.proofs.Follows.{answer-refused, answer-given}
 use Rattle.segmentation.specs.Seeds.{Slices}
 use Rattle.segmentation.proofs.Held.{none-held, all-held}
-use Rattle.prepared.specs.Answers.{treeAsked, seedsOf, preparedOf}
-use Rattle.prepared.specs.declared.Prepared.the-variants.{Seeded}
-use Rattle.prepared.proofs.Clean.{tree-clean, tree-seeds}
+use Rattle.prepared.specs.Answers.{treeAsked, recordsBefore, preparedOf}
+use Rattle.prepared.specs.declared.Prepared.the-variants.{Stored}
+use Rattle.prepared.proofs.Clean.{tree-clean, tree-segments}
 use borrow.Author.Needs.{needs}
 use Rattle.prepared.proofs.prepare.Statement.{statement}
 use Rattle.prepared.proofs.prepare.Tie as tie
@@ -22,45 +22,45 @@ lent s = record { sums = now (s .args .sums); rows = now (s .args .rows); gains 
 abbrev asked : tie.Start → TreeAsked
 asked s =
     let a = s .args in
-    treeAsked (record { cells = now (a .cells); n = a .n; d = a .d }) (settingsOf (a .settings) (now (a .forbidden)) (now (a .layers))) (lent s) (a .nodes) (a .cuts)
+    treeAsked (record { cells = now (a .cells); n = a .n; d = a .d }) (settingsOf (a .settings) (now (a .forbidden)) (record { layers = now (a .layers); draws = now (a .draws); W = a .w })) (lent s) (a .nodes) (a .cuts)
 
 -- the number is that of what is asked
-number : (c : tie.After-tree-refusal) → c .tree-refusal .result ≡ treeRefusal (asked (c .before .before .before .before .before .before .before .before))
+number : (c : tie.After-tree-refusal) → c .tree-refusal .result ≡ treeRefusal (asked (c .before .before .before .before .before .before .before .before .before))
 number c = rw (← c .before .record-room .ensures) (c .tree-refusal .ensures)
 
-none-refused : (c : tie.Else1) → treeRefusal (asked (c .before .before .before .before .before .before .before .before .before)) ≡ 0
+none-refused : (c : tie.Else1) → treeRefusal (asked (c .before .before .before .before .before .before .before .before .before .before)) ≡ 0
 none-refused c = sym (number (c .before)) ∙ c .if1 .left
 
 returns : tie.Need-returns
 returns c =
-    let s = c .before .before .before .before .before .before .before .before .before in
+    let s = c .before .before .before .before .before .before .before .before .before .before in
     let a = asked s in
     let is = number (c .before) in
     record {
-      answer = ap (preparedOf (sumsRoom (a .matrix))) (answer-refused is (c .if1 .taken) (length (seedsOf a)));
-      held = none-held is (sumsOf (a .matrix)) (seedsOf a) (lent s) (c .if1 .taken);
+      answer = ap (preparedOf (sumsRoom (a .matrix))) (answer-refused is (c .if1 .taken) (length (recordsBefore a)));
+      held = none-held is (sumsOf (a .matrix)) (recordsBefore a) (lent s) (c .if1 .taken);
     }
 
-store-seeded-requires : tie.Need-store-seeded-requires
-store-seeded-requires c κs = tree-seeds (asked (c .before .before .before .before .before .before .before .before .before .before .before .before .before)) (none-refused (c .before .before .before .before))
+store-segments-requires : tie.Need-store-segments-requires
+store-segments-requires c κs = tree-segments (asked (c .before .before .before .before .before .before .before .before .before .before .before .before .before .before)) (none-refused (c .before .before .before .before))
 
 sums-len-requires : tie.Need-sums-len-requires
-sums-len-requires c κs = let f = tree-clean (asked (c .before .before .before .before .before .before .before .before .before .before .before .before .before .before .before .before .before .before .before .before)) (none-refused (c .before .before .before .before .before .before .before .before .before .before .before)) in (f .sums .shape .rows .1, f .sums .shape .columns .1)
+sums-len-requires c κs = let f = tree-clean (asked (c .before .before .before .before .before .before .before .before .before .before .before .before .before .before .before .before .before .before .before .before .before)) (none-refused (c .before .before .before .before .before .before .before .before .before .before .before)) in (f .sums .shape .rows .1, f .sums .shape .columns .1)
 
 returns-2 : tie.Need-returns-2
-unfolding seedRecords
+unfolding storedRecords
 returns-2 c =
-    let s = c .before .before .before .before .before .before .before .before .before .before .before .before .before .before .before .before .before .before .before .before .before in
+    let s = c .before .before .before .before .before .before .before .before .before .before .before .before .before .before .before .before .before .before .before .before .before .before in
     let a = asked s in
     let is = number (c .before .before .before .before .before .before .before .before .before .before .before .before .before) in
     let none = c .before .before .before .before .before .before .before .before .before .before .before .before .if1 .left in
-    let told = c .before .before .before .before .before .before .before .store-seeded .ensures in
+    let told = c .before .before .before .before .before .before .before .store-segments .ensures in
     record {
       answer =
-          ap (λ (k : ℕ). Seeded k (c .before .before .before .before .before .before .before .store-seeded .result)) (c .sums-len .ensures)
-          ∙ ap (Seeded (sumsRoom (a .matrix))) (told .count)
-          ∙ ap (preparedOf (sumsRoom (a .matrix))) (answer-given is none (length (seedsOf a)));
-      held = all-held is (sumsOf (a .matrix)) (seedsOf a) (lent s) none (told .held);
+          ap (λ (k : ℕ). Stored k (c .before .before .before .before .before .before .before .store-segments .result)) (c .sums-len .ensures)
+          ∙ ap (Stored (sumsRoom (a .matrix))) (told .count)
+          ∙ ap (preparedOf (sumsRoom (a .matrix))) (answer-given is none (length (recordsBefore a)));
+      held = all-held is (sumsOf (a .matrix)) (recordsBefore a) (lent s) none (told .held);
     }
 
 pub prepare-spec : {M : Type 1} → statement M
@@ -70,7 +70,7 @@ prepare-spec =
     (λ c κs. search needs)
     (λ c κs. search needs)
     returns
-    store-seeded-requires
+    store-segments-requires
     sums-len-requires
     (λ c. search needs)
     (λ c. search needs)

@@ -91,11 +91,11 @@ rooming = record {
 -- ---- changeforest_tree: what the entry point is handed, with m, the closed end and the threshold apart, and counts
 abbrev exporting : Deal
 exporting = record {
-  ks = shared f64 ∷ plain word ∷ plain word ∷ plain word ∷ plain truth ∷ plain float ∷ shared usize ∷ shared f64 ∷ unique f64 ∷ unique usize ∷ unique f64 ∷ unique (node .row) ∷ unique usize ∷ unique usize ∷ [];
+  ks = shared f64 ∷ plain word ∷ plain word ∷ plain word ∷ plain truth ∷ plain float ∷ shared usize ∷ shared f64 ∷ shared usize ∷ plain word ∷ unique f64 ∷ unique usize ∷ unique f64 ∷ unique (node .row) ∷ unique usize ∷ unique usize ∷ [];
   res = number;
   asks = λ _. Unit {0};
-  says = λ (cells, (n, (d, (m, (closed, (threshold, (forbidden, (layers, (sums, (rows, (gains, (nodes, (cuts, (counts, _)))))))))))))) r (_, (_, (_, (_, (_, (_, (_, (_, (sums′, (rows′, (gains′, (nodes′, (cuts′, (counts′, _)))))))))))))).
-      TreeStored (record { cells = now (cells .x); n = n; d = d }) (record { shortest = record { m = m; closed = closed }; threshold = threshold; forbidden = now (forbidden .x); layers = now (layers .x) }) r
+  says = λ (cells, (n, (d, (m, (closed, (threshold, (forbidden, (layers, (draws, (w, (sums, (rows, (gains, (nodes, (cuts, (counts, _)))))))))))))))) r (_, (_, (_, (_, (_, (_, (_, (_, (_, (_, (sums′, (rows′, (gains′, (nodes′, (cuts′, (counts′, _)))))))))))))))).
+      TreeStored (record { cells = now (cells .x); n = n; d = d }) (record { shortest = record { m = m; closed = closed }; threshold = threshold; forbidden = now (forbidden .x); source = record { layers = now (layers .x); draws = now (draws .x); W = w } }) r
       (record { sums = sums .list; rows = rows .list; gains = gains .list; nodes = nodes .list; cuts = cuts .list }) (record { sums = sums′; rows = rows′; gains = gains′; nodes = nodes′; cuts = cuts′ })
       (counts .list) counts′;
 }
@@ -103,8 +103,8 @@ exporting = record {
 module _ {M : Type 1} (𝓤 : URA M) (H : Heap 𝓤) (A : Atoms 𝓤) (W : Given 𝓤 H A) (𝓣 : Tables 𝓤 H) (known-room : Known 𝓤 H A W rooming (𝓣 .C #room)) (known-entry : Known 𝓤 H A W answering (𝓣 .C #entry)) (known-tell : Known 𝓤 H A W telling (𝓣 .C #tell)) where
   walk : (xs : Args (exporting .ks)) → Walked 𝓤 H A W exporting (𝓣 .C) (𝓣 .Λ) code.function refl xs
   walk xs good asked pl =
-      let (cells, (n, (d, (m, (closed, (threshold, (forbidden, (layers, (sums, (rows, (gains, (nodes, (cuts, (counts, _)))))))))))))) = xs in
-      let (X, (n-fits, (d-fits, (m-fits, (c-fits, (t-fits, (F, (L, (S, (R, (G, (N, (K, (C, _)))))))))))))) = good in
+      let (cells, (n, (d, (m, (closed, (threshold, (forbidden, (layers, (draws, (w, (sums, (rows, (gains, (nodes, (cuts, (counts, _)))))))))))))))) = xs in
+      let (X, (n-fits, (d-fits, (m-fits, (c-fits, (t-fits, (F, (L, (D, (w-fits, (S, (R, (G, (N, (K, (C, _)))))))))))))))) = good in
       let s : Settings = record { shortest = record { m = m; closed = closed }; threshold = threshold } in
       let short-fits = shortest-fits m closed m-fits c-fits in
       let s-fits = settings-fit s short-fits t-fits in
@@ -113,16 +113,16 @@ module _ {M : Type 1} (𝓤 : URA M) (H : Heap 𝓤) (A : Atoms 𝓤) (W : Given
       calls 𝓤 H A W rooming (nodes .m, (counts .m, tt)) ((refl, N .1 .0), ((refl, C .1 .0), tt)) tt ! 0 refl (fmOf 𝓤 H (W .laws) 𝓣) (known-room (nodes .m, (counts .m, tt))) refl refl refl (λ room _ roomed.
       let few : room ≤ length (nodes .list) = rw (N .0) (roomed .said .1) in
       reborrows ! refl refl refl refl refl ▸ reborrows ! refl refl refl refl refl ▸ reborrows ! refl refl refl refl refl ▸ points ! refl refl refl ▸ builds ! refl refl (tt, (tt, (record { fits = roomed .is .1 }, tt))) ▸ reborrows ! refl refl refl refl refl ▸
-      lends-front ! (node .row) nodes 12 room few refl (λ ν δ.
-      let args : Args (answering .ks) = (cells, (n, (d, (s, (forbidden, (layers, (sums, (rows, (gains, (frontOf nodes room ν δ, (cuts, tt))))))))))) in
-      calls 𝓤 H A W answering args (X, (n-fits, (d-fits, (s-fits, (F, (L, (S, (R, (G, (front-good (node .row) nodes room ν δ few N, (K, tt))))))))))) tt ! 1 refl (fmOf 𝓤 H (W .laws) 𝓣) (known-entry args) refl refl refl (λ g ws grew.
-      let (_, (_, (_, (_, (_, (_, (sums′, (rows′, (gains′, (nodes′, (cuts′, _))))))))))) = ws in
+      lends-front ! (node .row) nodes 14 room few refl (λ ν δ.
+      let args : Args (answering .ks) = (cells, (n, (d, (s, (forbidden, (layers, (draws, (w, (sums, (rows, (gains, (frontOf nodes room ν δ, (cuts, tt))))))))))))) in
+      calls 𝓤 H A W answering args (X, (n-fits, (d-fits, (s-fits, (F, (L, (D, (w-fits, (S, (R, (G, (front-good (node .row) nodes room ν δ few N, (K, tt))))))))))))) tt ! 1 refl (fmOf 𝓤 H (W .laws) 𝓣) (known-entry args) refl refl refl (λ g ws grew.
+      let (_, (_, (_, (_, (_, (_, (_, (_, (sums′, (rows′, (gains′, (nodes′, (cuts′, _))))))))))))) = ws in
       let (a, (b, (c, (d′, (e, _))))) = grew .long in
       let after : Slices = record { sums = sums′; rows = rows′; gains = gains′; nodes = nodes′; cuts = cuts′ } in
-      front-back ! (node .row) nodes 12 room nodes′ (N .0) refl (λ same-front.
+      front-back ! (node .row) nodes 14 room nodes′ (N .0) refl (λ same-front.
       reborrows ! refl refl refl refl refl ▸
-      calls 𝓤 H A W telling (g, (counts, tt)) (grew .is, (C, tt)) tt ! 16 refl (fmOf 𝓤 H (W .laws) 𝓣) (known-tell (g, (counts, tt))) refl refl refl (λ r us told.
-      returning ! refl refl (finishes 𝓤 H A W exporting xs r (tt, (tt, (tt, (tt, (tt, (tt, (tt, (tt, (sums′, (rows′, (gains′, (whole before room after .nodes, (cuts′, (us .1 .0, tt)))))))))))))) (told .is) (a, (b, (c, (same-len room (nodes .list) nodes′ same-front, (e, (told .long .0, tt))))))
+      calls 𝓤 H A W telling (g, (counts, tt)) (grew .is, (C, tt)) tt ! 18 refl (fmOf 𝓤 H (W .laws) 𝓣) (known-tell (g, (counts, tt))) refl refl refl (λ r us told.
+      returning ! refl refl (finishes 𝓤 H A W exporting xs r (tt, (tt, (tt, (tt, (tt, (tt, (tt, (tt, (tt, (tt, (sums′, (rows′, (gains′, (whole before room after .nodes, (cuts′, (us .1 .0, tt)))))))))))))))) (told .is) (a, (b, (c, (same-len room (nodes .list) nodes′ same-front, (e, (told .long .0, tt))))))
       (stored _ _ before (counts .list) room (rw (N .0, C .0) (roomed .said .0)) few g after (us .1 .0) r (grew .said) (told .said))))))))
 
   changeforest-tree-meets : (mem : Memory → SProp 𝓤) (run : Routine → Fun 𝓤) → Meets 𝓤 H A f.signature (WpFn 𝓤 H (𝓣 .C) (𝓣 .Λ) code.function) (f.spec 𝓤 H A mem run)

@@ -1,4 +1,4 @@
--- `seed_segments` meets its contract: after i layers the records of the first i stand at the front.
+-- `store_layers` meets its contract: after i layers the records of the first i stand at the front.
 use mathlib.Core.Path.{_∙_, ap}
 use Prim.Native.Nat.{_+_, _-_, _≤_}
 use native.Mathlib.Omega.{arith}
@@ -8,13 +8,13 @@ use lib.Seq.{take-all}
 use Rattle.scope.specs.Layers.{layerCount, seeded, stored}
 use Rattle.stored.specs.Flat.{Put}
 use Rattle.segmentation.specs.Seeds.{searchOver, storedOver}
-use Rattle.stored.proofs.Flat.{put-none, put-more, put-long, put-told}
+use Rattle.stored.proofs.Flat.{put-none, put-more, put-long}
 use Rattle.layers.proofs.Layered.{right-at, total-next, total-within}
-use Rattle.segmentation.proofs.Stored.{seeds-next, seeds-few}
+use Rattle.segmentation.proofs.Stored.{layers-next, layers-few}
 use Rattle.control.specs.Settings.{shortestOf}
 use borrow.Author.Needs.{needs}
-use Rattle.segmentation.proofs.seed_segments.Statement.{statement}
-use Rattle.segmentation.proofs.seed_segments.Tie as tie
+use Rattle.segmentation.proofs.store_layers.Statement.{statement}
+use Rattle.segmentation.proofs.store_layers.Tie as tie
 
 abbrev Inv-loop : tie.InvT-loop
 Inv-loop sums n d shortest forbidden layers rows₀ gains₀ count₀ i₀ rows gains count i =
@@ -32,15 +32,15 @@ new-requires c κs =
     let s = c .before .before .before .before .before .before .before .before in
     (s .pre .0 .0, right-at (now (s .args .layers)) (c .before .before .loop .i) (s .pre .1 .0) (omega arith))
 
-seed-layer-requires : tie.Need-seed-layer-requires Inv-loop μ-loop
-seed-layer-requires c κs =
+store-layer-requires : tie.Need-store-layer-requires Inv-loop μ-loop
+store-layer-requires c κs =
     let s = c .before .before .before .before .before .before .before .before .before .before .before in
     let a = s .args in
     let layers = now (a .layers) in
     let l = c .before .before .before .before .before .loop in
     let new = c .before .before .new in
     let counted = new .ensures .2 .counted ∙ ap layerCount (new .ensures .1) in
-    let few = seeds-few (searchOver (now (a .sums)) (a .d) (shortestOf (a .shortest)) (now (a .forbidden))) (a .n) (take (l .i) layers) in
+    let few = layers-few (searchOver (now (a .sums)) (a .d) (shortestOf (a .shortest)) (now (a .forbidden))) (a .n) (take (l .i) layers) in
     let more = total-next layers (l .i) (omega arith) in
     let within = total-within layers (l .i + 1) in
     let long = put-long (l .inv .1) in
@@ -52,8 +52,8 @@ loop-again c =
     let a = c .before .before .before .before .before .before .before .before .before .before .before .before .before .before .before .before .args in
     let l = c .before .before .before .before .before .before .before .before .before .before .loop in
     let new = c .before .before .before .before .before .before .before .new in
-    let put = rw (new .ensures .2 .counted, new .ensures .0, new .ensures .1) at (c .before .before .before .before .seed-layer .ensures) in
-    (omega arith, rw (seeds-next (searchOver (now (a .sums)) (a .d) (shortestOf (a .shortest)) (now (a .forbidden))) (a .n) (now (a .layers)) (l .i) (omega arith)) (put-more (l .inv .1) put))
+    let put = rw (new .ensures .2 .counted, new .ensures .0, new .ensures .1) at (c .before .before .before .before .store-layer .ensures) in
+    (omega arith, rw (layers-next (searchOver (now (a .sums)) (a .d) (shortestOf (a .shortest)) (now (a .forbidden))) (a .n) (now (a .layers)) (l .i) (omega arith)) (put-more (l .inv .1) put))
 
 same-length : tie.Need-same-length Inv-loop μ-loop
 same-length c = put-long (c .before .loop .inv .1) .0
@@ -65,12 +65,10 @@ returns : tie.Need-returns Inv-loop μ-loop
 returns c =
     let a = c .before .before .before .before .before .before .before .args in
     let l = c .before .loop in
-    let put = rw (take-all (l .i) (now (a .layers)) (omega arith)) at (l .inv .1) in
-    let few = seeds-few (searchOver (now (a .sums)) (a .d) (shortestOf (a .shortest)) (now (a .forbidden))) (a .n) (now (a .layers)) in
-    (omega (arith, put .told), put-told (omega (arith, put .told)) (omega (arith, put .told)) put)
+    rw (take-all (l .i) (now (a .layers)) (omega arith)) at (l .inv .1)
 
-pub seed-segments-spec : {M : Type 1} → statement M
-seed-segments-spec =
+pub store-layers-spec : {M : Type 1} → statement M
+store-layers-spec =
     tie.close
     (tie.spec
     Inv-loop
@@ -79,7 +77,7 @@ seed-segments-spec =
     (λ c. search needs)
     (λ c. search needs)
     new-requires
-    seed-layer-requires
+    store-layer-requires
     (λ c. search needs)
     (λ c. search needs)
     loop-again

@@ -1,4 +1,4 @@
--- `seed_layer` meets its contract: after id segments their records stand behind the place, id at most.
+-- `store_layer` meets its contract: after id segments their records stand behind the place, id at most.
 use mathlib.Core.Path.{_≡_}
 use Prim.Native.Nat.{_+_, _-_, _≤_}
 use native.Mathlib.Nat.{mul-le-mul-right}
@@ -11,8 +11,8 @@ use Rattle.stored.proofs.Flat.{put-none, put-more, put-long}
 use Rattle.segmentation.proofs.Stored.{layer-next, layer-few}
 use Rattle.control.specs.Settings.{shortestOf}
 use borrow.Author.Needs.{needs}
-use Rattle.segmentation.proofs.seed_layer.Statement.{statement}
-use Rattle.segmentation.proofs.seed_layer.Tie as tie
+use Rattle.segmentation.proofs.store_layer.Statement.{statement}
+use Rattle.segmentation.proofs.store_layer.Tie as tie
 
 abbrev Inv-loop : tie.InvT-loop
 Inv-loop sums d shortest forbidden layer rows₀ gains₀ at count next₀ id₀ rows gains next id =
@@ -25,8 +25,8 @@ loop-holds : tie.Need-loop-holds Inv-loop μ-loop
 unfolding layerSegments stored
 loop-holds c = (omega arith, put-none _ _ _)
 
-seed-segment-requires : tie.Need-seed-segment-requires Inv-loop μ-loop
-seed-segment-requires c κs =
+store-segment-requires : tie.Need-store-segment-requires Inv-loop μ-loop
+store-segment-requires c κs =
     let s = c .before .before .before .before .before .before .before .before .before in
     let a = s .args in
     let l = c .before .before .before .before .loop in
@@ -44,7 +44,7 @@ loop-again c =
     let segment = c .before .before .before .before .before .before .before .segment .ensures in (
       omega arith,
       rw (layer-next (searchOver (now (a .sums)) (a .d) (shortestOf (a .shortest)) (now (a .forbidden))) (a .layer .n) (a .layer .value) (l .id), ← segment .0, ← segment .1)
-          (put-more (l .inv .1) (c .before .before .before .before .seed-segment .ensures)),
+          (put-more (l .inv .1) (c .before .before .before .before .store-segment .ensures)),
     )
 
 same-length : tie.Need-same-length Inv-loop μ-loop
@@ -56,15 +56,15 @@ same-length-2 c = put-long (c .before .loop .inv .1) .1
 returns : tie.Need-returns Inv-loop μ-loop
 returns c = let all : c .before .loop .id ≡ c .before .before .before .before .before .before .args .layer .count = omega arith in rw (← all) (c .before .loop .inv .1)
 
-pub seed-layer-spec : {M : Type 1} → statement M
-seed-layer-spec =
+pub store-layer-spec : {M : Type 1} → statement M
+store-layer-spec =
     tie.close
     (tie.spec
     Inv-loop
     μ-loop
     loop-holds
     (λ c κs. search needs)
-    seed-segment-requires
+    store-segment-requires
     (λ c. search needs)
     (λ c. search needs)
     loop-again

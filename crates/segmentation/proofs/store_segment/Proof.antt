@@ -1,4 +1,4 @@
--- `seed_segment` meets its contract: the search's record, or none.
+-- `store_segment` meets its contract: the search's record, or none.
 use mathlib.Core.Path.{refl, sym, _∙_}
 use native.Mathlib.Omega.{arith}
 use denote.Ref.{now}
@@ -7,8 +7,8 @@ use Rattle.stored.proofs.Flat.{put-none}
 use Rattle.optimizer.proofs.Answered.{record-some, refused-none}
 use Rattle.control.specs.Settings.{shortestOf}
 use borrow.Author.Needs.{needs}
-use Rattle.segmentation.proofs.seed_segment.Statement.{statement}
-use Rattle.segmentation.proofs.seed_segment.Tie as tie
+use Rattle.segmentation.proofs.store_segment.Statement.{statement}
+use Rattle.segmentation.proofs.store_segment.Tie as tie
 
 returns : tie.Need-returns
 returns c =
@@ -26,8 +26,8 @@ returns-2 c =
     rw (record-some (gainOf (now (s .sums)) (s .d)) (shortestOf (s .shortest)) (now (s .forbidden)) (s .segment .start .0) (s .segment .stop .0) _ (sym (c .before .before .before .before .before .before .before .before .before .before .search-segment .ensures) ∙ c .before .before .before .before .before .before .before .before .found .given .1))
     (record { rows-hold = put .0; gains-hold = put .1; told = refl })
 
-pub seed-segment-spec : {M : Type 1} → statement M
-seed-segment-spec =
+pub store-segment-spec : {M : Type 1} → statement M
+store-segment-spec =
     tie.close
     (tie.spec
     (λ c κs. search needs)

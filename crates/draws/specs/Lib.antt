@@ -1,0 +1,1 @@
+-- Draws are named by the definitions of scope alone.
