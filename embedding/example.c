@@ -18,24 +18,24 @@ static const double cells[ROWS * COLUMNS] = {
     3, 10, 4, 10, 3, 11, 4, 10, 3, 10, 9, 10, 8, 10, 9, 11, 8, 10, 9, 15, 8, 15, 9, 14,
 };
 
-/* Row 3 is no place to cut: 2 < x <= 3. */
-static const size_t forbidden[] = {2, 3};
+/* Row 3 is no place to cut: 2 < x <= 3. With layers there are no draws, but a pointer is never null. */
+static const size_t forbidden[] = {2, 3}, draws[1];
 static const double layers[] = {0.5};
 
 static double sums[(ROWS + 1) * COLUMNS], gains[RECORDS];
-static size_t rows[3 * RECORDS], cuts[(NODES - 1) / 2], counts[3];
+static size_t rows[3 * RECORDS], cuts[(NODES - 1) / 2], counts[4];
 static struct changeforest_node nodes[NODES];
 
 int main(void)
 {
-    uint32_t no = changeforest_tree(cells, ROWS * COLUMNS, ROWS, COLUMNS, SHORTEST, false, 10.0, forbidden, 2, layers, 1, sums,
-                                    (ROWS + 1) * COLUMNS, rows, 3 * RECORDS, gains, RECORDS, nodes, NODES, cuts, (NODES - 1) / 2,
-                                    counts, 3);
+    uint32_t no = changeforest_tree(cells, ROWS * COLUMNS, ROWS, COLUMNS, SHORTEST, false, 10.0, forbidden, 2, layers, 1, draws, 0, 0,
+                                    sums, (ROWS + 1) * COLUMNS, rows, 3 * RECORDS, gains, RECORDS, nodes, NODES, cuts, (NODES - 1) / 2,
+                                    counts, 4);
     if (no != 0) {
         printf("refused %u\n", (unsigned)no);
         return 1;
     }
-    printf("%zu nodes, %zu records, %zu cuts\n", counts[0], counts[1], counts[2]);
+    printf("%zu nodes, %zu records, %zu of them stored, %zu cuts\n", counts[0], counts[1], counts[3], counts[2]);
     for (size_t i = 0; i < counts[2]; i++)
         printf("cut at row %zu\n", cuts[i]);
     for (size_t i = 0; i < counts[0]; i++) {

@@ -1,6 +1,7 @@
-/* The marked cases of document 01, some of them with a closed end, and each refusal, through the C functions: one line for each call,
-   held to marked.stdout. Arrays that are written are mostly lent longer than their room, some exactly as long, and shorter where 7 is to
-   be given; more stands behind each. `touched` is printed where an entry that was not told, lent or not, is not as it was. */
+/* The marked cases of document 01, some of them with a closed end, some draws, and each refusal, through the C functions: one line for
+   each call, held to marked.stdout. Arrays that are written are mostly lent longer than their room, some exactly as long, and shorter
+   where 7 is to be given; more stands behind each. `touched` is printed where an entry that was not told, lent or not, is not as it
+   was. */
 #include <inttypes.h>
 #include <stdio.h>
 #include <string.h>
@@ -12,6 +13,16 @@
 enum { ROOM = 64, SPARE = 3 };
 static const size_t none[1];
 static const double layerless[1];
+
+/* What is stored before a tree is grown. */
+struct lists {
+    const double *layers;
+    size_t layers_len;
+    const size_t *draws;
+    size_t draws_len;
+    size_t w;
+};
+static const struct lists nothing = {layerless, 0, none, 0, 0};
 
 static uint64_t bits(double x)
 {
@@ -89,37 +100,47 @@ static void search(const char *name, const double *cells, size_t n, size_t m, bo
     end(no);
 }
 
-static void segments(const char *name, size_t n, bool closed, const double *layers, size_t layers_len)
+static struct lists layered(const double *layers)
 {
-    double cells[20] = {0}, sums[ROOM], gains[ROOM];
+    return (struct lists){layers, 1, none, 0, 0};
+}
+
+static struct lists drawn(const size_t *draws, size_t draws_len, size_t w)
+{
+    return (struct lists){layerless, 0, draws, draws_len, w};
+}
+
+static void segments(const char *name, const double *cells, size_t n, bool closed, struct lists l, size_t room)
+{
+    double sums[ROOM], gains[ROOM];
     size_t rows[ROOM], count = 0;
     fill_floats(sums);
     fill_floats(gains);
     fill_rows(rows);
-    uint32_t no = changeforest_seeded_segments(cells, n, n, 1, 1, closed, none, 0, layers, layers_len, sums, n + 1 + SPARE, rows, 30,
-                                               gains, 10, &count);
+    uint32_t no = changeforest_stored_segments(cells, n, n, 1, 1, closed, none, 0, l.layers, l.layers_len, l.draws, l.draws_len, l.w, sums,
+                                               n + 1 + SPARE, rows, 3 * room, gains, room, &count);
     printf("%s %zu:", name, count);
     rows_told(rows, 3 * count);
     floats_told(gains, count);
     end(no);
 }
 
-/* B = 13 for the longest run here, T = 3 at most. */
-static void tree(const char *name, const double *cells, size_t n, bool closed, double threshold, const double *layers,
-                 size_t layers_len, size_t room, size_t counts_len)
+/* B = 13 for the longest run here, T = 3 at most unless 6 is to be given. */
+static void tree(const char *name, const double *cells, size_t n, bool closed, double threshold, struct lists l, size_t room,
+                 size_t counts_len)
 {
     double sums[ROOM], gains[ROOM];
-    size_t rows[2 * ROOM], cuts[ROOM], counts[4] = {77, 77, 77, 77};
+    size_t rows[2 * ROOM], cuts[ROOM], counts[5] = {77, 77, 77, 77, 77};
     struct changeforest_node nodes[ROOM] = {{0}};
     fill_floats(sums);
     fill_floats(gains);
     fill_rows(rows);
     fill_rows(rows + ROOM);
     fill_rows(cuts);
-    uint32_t no = changeforest_tree(cells, n, n, 1, 1, closed, threshold, none, 0, layers, layers_len, sums, n + 1 + SPARE, rows, 2 * ROOM,
-                                    gains, ROOM, nodes, room, cuts, ROOM, counts, counts_len);
+    uint32_t no = changeforest_tree(cells, n, n, 1, 1, closed, threshold, none, 0, l.layers, l.layers_len, l.draws, l.draws_len, l.w, sums,
+                                    n + 1 + SPARE, rows, 2 * ROOM, gains, ROOM, nodes, room, cuts, ROOM, counts, counts_len);
     size_t told = no == 0 ? counts[0] : 0;
-    printf("%s %zu %zu %zu %zu nodes", name, counts[0], counts[1], counts[2], counts[3]);
+    printf("%s %zu %zu %zu %zu %zu nodes", name, counts[0], counts[1], counts[2], counts[3], counts[4]);
     for (size_t i = 0; i < told; i++) {
         const struct changeforest_node *x = &nodes[i];
         printf(" %zu,%zu,%d:", x->start, x->stop, x->significant);
@@ -217,11 +238,13 @@ int main(void)
     static const size_t m4[] = {3, 5}, m5[] = {0, 9}, odd[] = {3};
     static const double m6[] = {0, 0, 8, 0, 0}, m9[] = {0, 1, 3, 7}, infinite[] = {0, 1e308 * 10, 0, 0};
     static const size_t m10[] = {2, 1, 0, 0, 1, 2, 1, 0, 2}, twice[] = {2, 1, 1, 0, 1, 2, 1, 0, 2};
-    static const double m7[] = {0, 0, 0, 0, 8, 8, 8, 8}, m8[5];
+    static const double m7[] = {0, 0, 0, 0, 8, 8, 8, 8}, m8[5], m11[20];
     static const double half[] = {0.5}, quarter[] = {0.25}, one[] = {1.0};
     static const double l0[] = {3, 1, 0}, l1[] = {1, 1, 2}, values[] = {9, 1, 4, 4, 0};
     static const double last[] = {0, 0, 0, 8}, rising[] = {0, 0, 1, 2};
     static const size_t both[] = {0, 1, 1, 0, 0, 1};
+    static const double bump[] = {0, 0, 8, 8, 0, 0, 0, 0};
+    static const size_t draws[] = {4, 4, 0, 2, 0, 4, 2, 6}, past[] = {0, 4, 9, 9};
 
     candidates("M1", 10, 3, false, none, 0, 10, 4 + SPARE);
     candidates("M2", 10, 5, false, none, 0, 10, 0);
@@ -231,14 +254,14 @@ int main(void)
     gain("M6 at 2", m6, LEN(m6), 0, 5, 2);
     gain("M6 at 3", m6, LEN(m6), 0, 5, 3);
     search("M6", m6, LEN(m6), 1, false, 5);
-    tree("M7", m7, LEN(m7), false, 10, layerless, 0, 13, 3);
-    tree("M8", m8, LEN(m8), false, -1, layerless, 0, 7, 4);
-    tree("M7 with a layer", m7, LEN(m7), false, 10, half, 1, 13, 3);
+    tree("M7", m7, LEN(m7), false, 10, nothing, 13, 4);
+    tree("M8", m8, LEN(m8), false, -1, nothing, 7, 5);
+    tree("M7 with a layer", m7, LEN(m7), false, 10, layered(half), 13, 4);
     predict("M9", m9, LEN(m9), 4, 2);
     order("M9 ordering", m9, LEN(m9), 16);
     test("M10", 1, 3, false, m10, LEN(m10), 0.05);
-    segments("M11", 20, false, half, 1);
-    segments("M11 quarter", 20, false, quarter, 1);
+    segments("M11", m11, LEN(m11), false, layered(half), 3 + SPARE);
+    segments("M11 quarter", m11, LEN(m11), false, layered(quarter), 7);
     length("relative", 0.07, 100);
     curve("curve", l0, 3, l1, 3);
     pick("pick", values, LEN(values), false, 3);
@@ -250,23 +273,30 @@ int main(void)
     candidates("M1 closed", 10, 3, true, none, 0, 10, 5 + SPARE);
     candidates("M2 closed", 10, 5, true, none, 0, 10, 1);
     search("last closed", last, LEN(last), 1, true, 4);
-    tree("M8 closed", m8, LEN(m8), true, -1, layerless, 0, 9, 4);
-    segments("two rows closed", 4, true, half, 1);
+    tree("M8 closed", m8, LEN(m8), true, -1, nothing, 9, 5);
+    segments("two rows closed", m11, 4, true, layered(half), 3 + SPARE);
     pick("pick closed", rising, LEN(rising), true, 3);
     guesses("two rows between closed", 1, true, false, odd, 1, 2);
     guesses("two rows listed closed", 1, true, true, none, 0, 2);
     test("two values closed", 1, 2, true, both, LEN(both), 0.05);
+
+    segments("draws", bump, LEN(bump), false, drawn(draws, LEN(draws), 3), 3);
+    segments("one record of draws", bump, LEN(bump), false, drawn(draws, LEN(draws), 1), 1 + SPARE);
+    segments("no record of draws", bump, LEN(bump), false, drawn(draws, LEN(draws), 0), 0);
+    segments("draws closed", bump, LEN(bump), true, drawn(draws, LEN(draws), 2), 2);
+    tree("no sheet", bump, LEN(bump), false, 40, nothing, 13, 4);
+    tree("sheet of draws", bump, LEN(bump), false, 40, drawn(draws, LEN(draws), 1), 13, 5);
 
     candidates("no rows", 0, 3, false, none, 0, 10, 4);
     length("half", 0.5, 100);
     test("alpha", 1, 3, false, m10, LEN(m10), 1);
     search("infinite", infinite, LEN(infinite), 1, false, 4);
     candidates("odd list", 10, 3, false, odd, LEN(odd), 10, 4);
-    segments("layer of 1", 20, false, one, 1);
-    tree("NaN threshold", m8, LEN(m8), false, infinite[1] - infinite[1], layerless, 0, 7, 2);
-    tree("short nodes", m8, LEN(m8), false, -1, layerless, 0, 6, 3);
-    tree("short counts", m8, LEN(m8), false, -1, layerless, 0, 7, 2);
-    tree("no counts", m8, LEN(m8), false, -1, layerless, 0, 7, 0);
+    segments("layer of 1", m11, LEN(m11), false, layered(one), 1);
+    tree("NaN threshold", m8, LEN(m8), false, infinite[1] - infinite[1], nothing, 7, 2);
+    tree("short nodes", m8, LEN(m8), false, -1, nothing, 6, 4);
+    tree("short counts", m8, LEN(m8), false, -1, nothing, 7, 3);
+    tree("no counts", m8, LEN(m8), false, -1, nothing, 7, 0);
     candidates("short", 10, 3, false, none, 0, 10, 3);
     order("short ordering", m9, LEN(m9), 15);
     gain("split past stop", m6, LEN(m6), 0, 3, 4);
@@ -277,10 +307,23 @@ int main(void)
 
     candidates("nine rows closed", 9, 5, true, none, 0, 9, 0);
     candidates("short closed", 10, 5, true, none, 0, 10, 0);
-    tree("short nodes closed", m8, LEN(m8), true, -1, layerless, 0, 8, 3);
+    tree("short nodes closed", m8, LEN(m8), true, -1, nothing, 8, 4);
     search("last", last, LEN(last), 2, false, 4);
     pick("no candidate unless closed", rising, LEN(rising), false, 3);
     guesses("two rows between", 1, false, false, odd, 1, 2);
     test("two values", 1, 2, false, both, LEN(both), 0.05);
+
+    segments("odd draws", bump, LEN(bump), false, drawn(draws, 7, 2), 2);
+    tree("odd draws of a tree", bump, LEN(bump), false, 40, drawn(draws, 1, 2), 13, 4);
+    segments("layers and draws", bump, LEN(bump), false, (struct lists){half, 1, draws, LEN(draws), 2}, 3);
+    tree("layers and draws of a tree", bump, LEN(bump), false, 40, (struct lists){half, 1, draws, 2, 2}, 13, 4);
+    segments("4,097 records of draws", bump, LEN(bump), false, drawn(draws, LEN(draws), 4097), 3);
+    segments("4,097 records without draws", bump, LEN(bump), false, drawn(none, 0, 4097), 3);
+    tree("4,097 records of a tree", bump, LEN(bump), false, 40, drawn(draws, LEN(draws), 4097), 13, 4);
+    segments("short for draws", bump, LEN(bump), false, drawn(draws, LEN(draws), 3), 2);
+    segments("short and past the run", bump, LEN(bump), false, drawn(past, LEN(past), 3), 2);
+    tree("short counts and past the run", bump, LEN(bump), false, 40, drawn(past, LEN(past), 1), 13, 3);
+    segments("past the run", bump, LEN(bump), false, drawn(past, LEN(past), 1), 1);
+    tree("past the run of a tree", bump, LEN(bump), false, 40, drawn(past, LEN(past), 1), 13, 4);
     return 0;
 }

@@ -20,6 +20,10 @@
    Sizes: n 1 to 4,096 rows (1,024 for ordering and predict), d 1 to 64 columns, m 1 to 4,096. A matrix is n*d cells, row after row.
    forbidden is a list of pairs a, b: the rows a < x <= b are barred. A segment [start, stop) has the rows from start to stop-1.
 
+   Segments can be searched and stored before a tree is grown: those of layers, at most 64, each a value in [1/4096, 1); or those drawn:
+   draws is a list of pairs start, stop, of any length, of which at most w records are stored, w 0 to 4,096. With neither all is as in the
+   original changeforest's BS, with layers as in its SBS, with draws as in its WBS, which draws them itself.
+
    closed is a setting, the closed end: whether the right part of a split may have exactly m rows. The candidates of [start, stop) are
    the rows x that are not barred with start+m <= x and x+m < stop, or x+m <= stop where closed is true. Where it is false all is as in
    the original changeforest, which has no such setting.
@@ -29,10 +33,11 @@
     2  m outside its size, or a relative length not strictly between 0 and 0.5
     3  a threshold that is NaN, or alpha not strictly between 0 and 1
     4  an infinite or NaN cell, likelihood, delta, base or observed maximum
-    5  forbidden_len odd, or a pair with a > b
-    6  more than 64 layers, or a layer value not in [1/4096, 1)
+    5  forbidden_len odd, or a forbidden pair with a > b; draws_len odd
+    6  more than 64 layers, or a layer value not in [1/4096, 1); layers and draws both; w above 4,096, with draws or without
     7  an array that is written is shorter than its room
-    8  start > stop or stop > n; a split below start or above stop; for predict also start = stop
+    8  start > stop or stop > n; a split below start or above stop; for predict also start = stop; a draw with stop > n, also one that is
+       passed over or not reached
     9  2*m >= stop-start, or where closed is true 2*m > stop-start; for permutations likewise with L for stop-start
    10  every row of the candidate range is barred
    11  no list of p permutations of 0..L-1, or p above 999
@@ -71,14 +76,15 @@ uint32_t changeforest_find_best_split(const double *cells, size_t cells_len, siz
                                       const size_t *forbidden, size_t forbidden_len, size_t start, size_t stop, double *sums,
                                       size_t sums_len, size_t *split, double *gain);
 
-/* The records of the seeded segments of all layers, and how many, into count: start, stop and best split of each into rows, three
-   entries a record, its gain into gains. A layer's value v gives 2*ceil(f32(1/v))-1 segments; one that a search would refuse leaves
-   no record. sums takes the matrix's prefix sums. Room: sums (n+1)*d; with T the layers' segments summed, rows 3*T and gains T.
-   Refusals: 1, 2, 4, 5, 6, 7. */
-uint32_t changeforest_seeded_segments(const double *cells, size_t cells_len, size_t n, size_t d, size_t m, bool closed,
+/* The records of the segments of all layers, or of those drawn, and how many, into count: start, stop and best split of each into rows,
+   three entries a record, its gain into gains. A layer's value v gives 2*ceil(f32(1/v))-1 segments. A draw with start >= stop is passed
+   over; the others are searched in order until w records stand or there are no more. A segment that a search would refuse leaves no
+   record. sums takes the matrix's prefix sums. Room: sums (n+1)*d; with T the layers' segments summed, or w where draws_len is not 0,
+   rows 3*T and gains T. Refusals: 1, 2, 4, 5, 6, 7, 8 (draws). */
+uint32_t changeforest_stored_segments(const double *cells, size_t cells_len, size_t n, size_t d, size_t m, bool closed,
                                       const size_t *forbidden, size_t forbidden_len, const double *layers, size_t layers_len,
-                                      double *sums, size_t sums_len, size_t *rows, size_t rows_len, double *gains, size_t gains_len,
-                                      size_t *count);
+                                      const size_t *draws, size_t draws_len, size_t w, double *sums, size_t sums_len, size_t *rows,
+                                      size_t rows_len, double *gains, size_t gains_len, size_t *count);
 
 /* The best split of [start, stop) and its gain. */
 struct changeforest_record {
@@ -88,7 +94,7 @@ struct changeforest_record {
     double gain;
 };
 
-/* A segment of the tree: whether it is cut; its choice, where it has one (else all zero), which may carry the ends of a seeded segment
+/* A segment of the tree: whether it is cut; its choice, where it has one (else all zero), which may carry the ends of a stored segment
    inside it; the places of its parts in the list of nodes (0 and 0 where it is not cut). */
 struct changeforest_node {
     size_t start;
@@ -101,16 +107,16 @@ struct changeforest_node {
 };
 
 /* The tree of the run: a segment is cut at its choice's split where the choice's gain exceeds threshold, and then both parts are grown.
-   The nodes in preorder into nodes, the rows that are cut from left to right into cuts; the records, those of the seeded segments first,
-   into rows and gains as by changeforest_seeded_segments. counts takes how many nodes, records and cuts there are. sums takes the
-   matrix's prefix sums. Room: sums (n+1)*d; with T as there and B the greater of 1 and 2*floor((n-1)/m)-1, or 2*floor(n/m)-1 where
-   closed is true, rows 3*(T+B), gains T+B, nodes B, cuts (B-1)/2; counts 3.
-   Refusals: 1, 2, 3 (threshold), 4, 5, 6, 7. */
+   The nodes in preorder into nodes, the rows that are cut from left to right into cuts; the records into rows and gains, first those that
+   changeforest_stored_segments stores, as it does. counts takes how many nodes, records and cuts there are, and how many of the records
+   are stored ones, in this order. sums takes the matrix's prefix sums. Room: sums (n+1)*d; with T as there and B the greater of 1 and
+   2*floor((n-1)/m)-1, or 2*floor(n/m)-1 where closed is true, rows 3*(T+B), gains T+B, nodes B, cuts (B-1)/2; counts 4.
+   Refusals: 1, 2, 3 (threshold), 4, 5, 6, 7, 8 (draws). */
 uint32_t changeforest_tree(const double *cells, size_t cells_len, size_t n, size_t d, size_t m, bool closed, double threshold,
-                           const size_t *forbidden, size_t forbidden_len, const double *layers, size_t layers_len, double *sums,
-                           size_t sums_len, size_t *rows, size_t rows_len, double *gains, size_t gains_len,
-                           struct changeforest_node *nodes, size_t nodes_len, size_t *cuts, size_t cuts_len, size_t *counts,
-                           size_t counts_len);
+                           const size_t *forbidden, size_t forbidden_len, const double *layers, size_t layers_len, const size_t *draws,
+                           size_t draws_len, size_t w, double *sums, size_t sums_len, size_t *rows, size_t rows_len, double *gains,
+                           size_t gains_len, struct changeforest_node *nodes, size_t nodes_len, size_t *cuts, size_t cuts_len,
+                           size_t *counts, size_t counts_len);
 
 /* For each row all rows by squared distance from it, equal ones by lower index, into ordering, row after row; distances takes the
    last row's. Room: ordering n*n, distances n. Refusals: 1, 4, 7. */

@@ -36,29 +36,31 @@ pub struct Node {
 const _: () = assert!(std::mem::size_of::<Node>() == 72);
 
 impl Node {
-    /// The record that decides over the segment; it may carry the ends of a seeded segment inside it.
+    /// The record that decides over the segment; it may carry the ends of a stored segment inside it.
     pub fn choice(&self) -> Option<Record> {
         self.has_choice.then_some(self.choice)
     }
 }
 
-/// How many nodes, records and cuts a tree has.
+/// How many nodes, records and cuts a tree has; of the records the first `stored` were there before it was grown.
 #[derive(Clone, Copy, Debug, PartialEq, Eq)]
 #[non_exhaustive]
 pub struct Counts {
     pub nodes: usize,
     pub records: usize,
     pub cuts: usize,
+    pub stored: usize,
 }
 
-/// The tree of a run: its nodes in preorder, the rows that are cut from left to right, and the records, those of the seeded segments
-/// first.
+/// The tree of a run: its nodes in preorder, the rows that are cut from left to right, and the records, of which the first `stored` were
+/// there before it was grown.
 #[derive(Clone, Debug, PartialEq)]
 #[non_exhaustive]
 pub struct Tree {
     pub nodes: Vec<Node>,
     pub cuts: Vec<usize>,
     pub records: Vec<Record>,
+    pub stored: usize,
 }
 
 /// One to three guesses, ascending; with a closed end and no list a segment of two rows has its one candidate twice.

@@ -1,6 +1,6 @@
-//! What a call is asked: the readings, the settings, the curves. Any values are allowed here; the call judges them. A field that is not
-//! given has a default that changes nothing, or one that is refused where it is read: so a later field breaks no caller who ends in
-//! `..Settings::default()`.
+//! What a call is asked: the readings, the settings, the segments to store, the curves. Any values are allowed here; the call judges
+//! them. A field that is not given has a default that changes nothing, or one that is refused where it is read: so a later field breaks no
+//! caller who ends in `..Settings::default()`.
 
 /// Readings, row after row. Judged by refusal 1: 1 to 4,096 rows (1,024 where neighbours are ordered), 1 to 64 columns, and
 /// `rows * columns` cells.
@@ -27,13 +27,11 @@ pub struct Settings<'a> {
     /// Pairs a, b, one after another: the rows a < x <= b are barred. `None`, the default, is the same as an empty list, except to
     /// [`guesses`](crate::lent::guesses).
     pub forbidden: Option<&'a [usize]>,
-    /// The layers' values, at most 64, each in `[1/4096, 1)`. None by default: no segments are seeded.
-    pub layers: &'a [f64],
 }
 
 impl Default for Settings<'_> {
     fn default() -> Self {
-        Settings { m: 0, closed: false, threshold: f64::NAN, alpha: f64::NAN, forbidden: None, layers: &[] }
+        Settings { m: 0, closed: false, threshold: f64::NAN, alpha: f64::NAN, forbidden: None }
     }
 }
 
@@ -41,6 +39,39 @@ impl<'a> Settings<'a> {
     /// The forbidden list, for a call to which not given is empty.
     pub(crate) fn barred(&self) -> &'a [usize] {
         self.forbidden.unwrap_or(&[])
+    }
+}
+
+/// Which segments are searched and stored before a tree is grown.
+#[derive(Clone, Copy, Debug, Default, PartialEq)]
+pub enum Segments<'a> {
+    /// None: BS of the original changeforest.
+    #[default]
+    None,
+    /// Those of layers, SBS there: the layers' values, at most 64, each in `[1/4096, 1)`.
+    Layers(&'a [f64]),
+    /// Those drawn, WBS there: `pairs` are start and stop of each, one after another, in whatever number. One with start >= stop is
+    /// passed over; the others are searched in order, and those that answer are stored, until `most` records stand, at most 4,096, or
+    /// there are no more. One with stop past the run is refused by 8, wherever it stands.
+    Draws { pairs: &'a [usize], most: usize },
+}
+
+/// The same as two lists, as the library takes it: a run has layers or draws, and both are refused by 6. `most` goes with the draws;
+/// where there are none it is judged and otherwise not looked at.
+#[derive(Clone, Copy, Debug, Default, PartialEq)]
+pub struct Lists<'a> {
+    pub layers: &'a [f64],
+    pub draws: &'a [usize],
+    pub most: usize,
+}
+
+impl<'a> From<Segments<'a>> for Lists<'a> {
+    fn from(segments: Segments<'a>) -> Self {
+        match segments {
+            Segments::None => Lists::default(),
+            Segments::Layers(layers) => Lists { layers, ..Lists::default() },
+            Segments::Draws { pairs, most } => Lists { draws: pairs, most, ..Lists::default() },
+        }
     }
 }
 

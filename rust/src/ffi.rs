@@ -18,15 +18,17 @@ extern "C" {
         forbidden: *const usize, forbidden_len: usize, start: usize, stop: usize, sums: *mut f64, sums_len: usize,
         split: *mut usize, gain: *mut f64,
     ) -> u32;
-    pub fn changeforest_seeded_segments(
+    pub fn changeforest_stored_segments(
         cells: *const f64, cells_len: usize, n: usize, d: usize, m: usize, closed: bool,
         forbidden: *const usize, forbidden_len: usize, layers: *const f64, layers_len: usize,
+        draws: *const usize, draws_len: usize, w: usize,
         sums: *mut f64, sums_len: usize, rows: *mut usize, rows_len: usize, gains: *mut f64, gains_len: usize,
         count: *mut usize,
     ) -> u32;
     pub fn changeforest_tree(
         cells: *const f64, cells_len: usize, n: usize, d: usize, m: usize, closed: bool, threshold: f64,
         forbidden: *const usize, forbidden_len: usize, layers: *const f64, layers_len: usize,
+        draws: *const usize, draws_len: usize, w: usize,
         sums: *mut f64, sums_len: usize, rows: *mut usize, rows_len: usize, gains: *mut f64, gains_len: usize,
         nodes: *mut Node, nodes_len: usize, cuts: *mut usize, cuts_len: usize, counts: *mut usize, counts_len: usize,
     ) -> u32;

@@ -1,6 +1,8 @@
 //! The entry points over lent memory. Room and refusals are those of include/changeforest.h; a refusal leaves every slice as it was, and
 //! an answer leaves the entries that it does not tell.
 //!
+//! What is stored before a tree is grown is given as [`Lists`](crate::Lists), which [`Segments`](crate::Segments) turns into.
+//!
 //! Where a call takes more than two slices they are fields of one struct. A slice that is not given is empty, and is refused by 7 where
 //! entries of it are asked: so a later field breaks no caller who ends in `..TreeRoom::default()`.
 
@@ -15,5 +17,5 @@ pub use curves::{gain_from_likelihoods, permutation_test};
 pub use lengths::{minimal_segment_length, nearest_f32};
 pub use mean::{find_best_split, gain, split_candidates};
 pub use neighbours::{ordering, predict, PredictRoom};
-pub use tree::{seeded_segments, tree, SegmentsRoom, TreeRoom};
+pub use tree::{stored_segments, tree, SegmentsRoom, TreeRoom};
 pub use two_step::{guesses, pick};

@@ -1,12 +1,12 @@
 //! Haspgarnet's proved segmentation core for Rust hosts: safe functions over `libchangeforest_c.a`.
 //!
 //! ```
-//! use haspgarnet_changeforest::{owned, Matrix, Settings};
+//! use haspgarnet_changeforest::{owned, Matrix, Segments, Settings};
 //!
 //! let cells = [3.0, 4.0, 3.0, 4.0, 9.0, 8.0, 9.0, 8.0];
 //! let readings = Matrix { cells: &cells, rows: 8, columns: 1 };
 //! let settings = Settings { m: 1, threshold: 10.0, ..Settings::default() };
-//! assert_eq!(owned::tree(readings, &settings)?.cuts, [4]);
+//! assert_eq!(owned::tree(readings, &settings, Segments::None)?.cuts, [4]);
 //! # Ok::<(), haspgarnet_changeforest::Refusal>(())
 //! ```
 //!
@@ -27,5 +27,5 @@ pub mod owned;
 mod refusal;
 
 pub use answers::{Counts, Guesses, Node, Record, Split, Tested, Tree};
-pub use asked::{Curves, Matrix, Permutations, Settings};
+pub use asked::{Curves, Lists, Matrix, Permutations, Segments, Settings};
 pub use refusal::Refusal;

@@ -2,13 +2,14 @@
 use std::ops::Range;
 
 use crate::lent::{self, PredictRoom, SegmentsRoom, TreeRoom};
-use crate::{Matrix, Node, Record, Refusal, Settings, Split, Tree};
+use crate::{Lists, Matrix, Node, Record, Refusal, Segments, Settings, Split, Tree};
 
-/// The sizes of document 01. Beyond them a call is refused by 1 or 6, whatever its room: none is allocated.
+/// The sizes of documents 01 and 02. Beyond them a call is refused by 1 or 6, whatever its room: none is allocated.
 const MOST_ROWS: usize = 4096;
 const MOST_COLUMNS: usize = 64;
 const MOST_NEIGHBOURS: usize = 1024;
 const MOST_LAYERS: usize = 64;
+const MOST_STORED: usize = 4096;
 
 fn sums_room(matrix: Matrix) -> Vec<f64> {
     if matrix.rows > MOST_ROWS || matrix.columns > MOST_COLUMNS {
@@ -25,11 +26,15 @@ fn of_a_run(segment: Range<usize>) -> Range<usize> {
     segment
 }
 
-/// T, the segments of all layers.
-fn segments(layers: &[f64]) -> usize {
+/// T, the most records that can be stored: `most` where there are draws, else one for each segment of the layers.
+fn most_stored(lists: Lists) -> usize {
+    let Lists { layers, draws, most } = lists;
     let admitted = |v: &f64| *v >= 1.0 / 4096.0 && *v < 1.0;
-    if layers.len() > MOST_LAYERS || !layers.iter().all(admitted) {
+    if most > MOST_STORED || layers.len() > MOST_LAYERS || !layers.iter().all(admitted) {
         return 0;
+    }
+    if !draws.is_empty() {
+        return most;
     }
     layers.iter().map(|v| 2 * ((1.0 / v) as f32).ceil() as usize - 1).sum()
 }
@@ -63,12 +68,13 @@ fn records(rows: &[usize], gains: &[f64], count: usize) -> Vec<Record> {
         .collect()
 }
 
-/// The records of the seeded segments of all layers. Reads m, closed, forbidden and layers.
-pub fn seeded_segments(matrix: Matrix, settings: &Settings) -> Result<Vec<Record>, Refusal> {
-    let room = segments(settings.layers);
+/// The records that searching the segments stores. Reads m, closed and forbidden.
+pub fn stored_segments(matrix: Matrix, settings: &Settings, segments: Segments) -> Result<Vec<Record>, Refusal> {
+    let lists = Lists::from(segments);
+    let room = most_stored(lists);
     let (mut sums, mut rows, mut gains) = (sums_room(matrix), vec![0; 3 * room], vec![0.0; room]);
     let room = SegmentsRoom { sums: &mut sums, rows: &mut rows, gains: &mut gains };
-    let count = lent::seeded_segments(matrix, settings, room)?;
+    let count = lent::stored_segments(matrix, settings, lists, room)?;
     Ok(records(&rows, &gains, count))
 }
 
@@ -81,17 +87,18 @@ fn most_nodes(rows: usize, settings: &Settings) -> usize {
     (2 * parts).saturating_sub(1).max(1)
 }
 
-/// The tree of the run. Reads m, closed, threshold, forbidden and layers.
-pub fn tree(matrix: Matrix, settings: &Settings) -> Result<Tree, Refusal> {
+/// The tree of the run, over the records of the segments. Reads m, closed, threshold and forbidden.
+pub fn tree(matrix: Matrix, settings: &Settings, segments: Segments) -> Result<Tree, Refusal> {
+    let lists = Lists::from(segments);
     let most = most_nodes(matrix.rows, settings);
-    let room = segments(settings.layers) + most;
+    let room = most_stored(lists) + most;
     let (mut sums, mut rows, mut gains) = (sums_room(matrix), vec![0; 3 * room], vec![0.0; room]);
     let (mut nodes, mut cuts) = (vec![Node::default(); most], vec![0; (most - 1) / 2]);
     let room = TreeRoom { sums: &mut sums, rows: &mut rows, gains: &mut gains, nodes: &mut nodes, cuts: &mut cuts };
-    let counts = lent::tree(matrix, settings, room)?;
+    let counts = lent::tree(matrix, settings, lists, room)?;
     nodes.truncate(counts.nodes);
     cuts.truncate(counts.cuts);
-    Ok(Tree { nodes, cuts, records: records(&rows, &gains, counts.records) })
+    Ok(Tree { nodes, cuts, records: records(&rows, &gains, counts.records), stored: counts.stored })
 }
 
 fn ordering_room(rows: usize) -> (Vec<u32>, Vec<f64>) {

@@ -1,9 +1,9 @@
 //! The closed end: what it admits, and what is refused without it.
 use haspgarnet_changeforest::lent::{self, TreeRoom};
-use haspgarnet_changeforest::{owned, Curves, Node, Permutations, Settings};
+use haspgarnet_changeforest::{owned, Curves, Lists, Node, Permutations, Segments, Settings};
 
 mod common;
-use common::{column, number, place, with_m};
+use common::{column, fields, number, place, with_m};
 
 fn closed(m: usize) -> Settings<'static> {
     Settings { m, closed: true, ..Settings::default() }
@@ -50,27 +50,34 @@ fn searches() {
 }
 
 #[test]
-fn seeded_segments_of_two_rows() {
-    let layered = |settings| Settings { layers: &[0.5], ..settings };
-    let readings = column(&[0.0, 0.0, 0.0, 8.0]);
-    let stored = owned::seeded_segments(readings, &layered(closed(1))).unwrap();
-    let rows: Vec<_> = stored.iter().map(|record| (record.start, record.stop, record.split, record.gain)).collect();
-    assert_eq!(rows, [(0, 2, 1, 0.0), (1, 3, 2, 0.0), (2, 4, 3, 32.0)]);
-    assert_eq!(owned::seeded_segments(readings, &layered(with_m(1))).unwrap(), []);
+fn stored_segments_of_two_rows() {
+    let stored = |settings, segments| -> Vec<_> {
+        let stored = owned::stored_segments(column(&[0.0, 0.0, 0.0, 8.0]), &settings, segments).unwrap();
+        stored.iter().map(fields).collect()
+    };
+    let layers = Segments::Layers(&[0.5]);
+    assert_eq!(stored(closed(1), layers), [(0, 2, 1, 0.0), (1, 3, 2, 0.0), (2, 4, 3, 32.0)]);
+    assert_eq!(stored(with_m(1), layers), []);
+    let draws = Segments::Draws { pairs: &[2, 4, 3, 4], most: 2 };
+    assert_eq!(stored(closed(1), draws), [(2, 4, 3, 32.0)]);
+    assert_eq!(stored(with_m(1), draws), []);
 }
 
 #[test]
 fn the_most_nodes() {
-    let everywhere = |settings| Settings { threshold: -1.0, ..settings };
-    let tree = owned::tree(column(&[0.0; 4]), &everywhere(closed(1))).unwrap();
+    let everywhere = |n, settings| {
+        let settings = Settings { threshold: -1.0, ..settings };
+        owned::tree(column(&vec![0.0; n]), &settings, Segments::None).unwrap()
+    };
+    let tree = everywhere(4, closed(1));
     assert_eq!((tree.cuts, tree.nodes.len(), tree.records.len()), (vec![1, 2, 3], 7, 3));
     let last = tree.nodes[6];
     assert_eq!((last.start, last.stop, last.choice()), (3, 4, None));
-    assert_eq!(owned::tree(column(&[0.0; 4]), &everywhere(with_m(1))).unwrap().cuts, [1, 2]);
-    assert_eq!(owned::tree(column(&[0.0; 15]), &everywhere(closed(5))).unwrap().cuts, [5, 10]);
+    assert_eq!(everywhere(4, with_m(1)).cuts, [1, 2]);
+    assert_eq!(everywhere(15, closed(5)).cuts, [5, 10]);
     for (n, m) in [(1, 1), (1, 2), (3, 2), (4, 2), (98, 7), (100, 7), (4096, 4096), (4096, 1)] {
         let most = (2 * (n / m)).max(2) - 1;
-        let tree = owned::tree(column(&vec![0.0; n]), &everywhere(closed(m))).unwrap();
+        let tree = everywhere(n, closed(m));
         assert_eq!((tree.nodes.len(), tree.cuts.len()), (most, (most - 1) / 2));
     }
 }
@@ -83,7 +90,7 @@ fn the_trees_room_follows() {
     let (mut nodes, mut cuts) = ([Node::default(); 7], [77; 3]);
     let mut grown = |most: usize, records: usize, cuts: &mut [usize]| {
         let (rows, gains, nodes) = (&mut rows[..3 * records], &mut gains[..records], &mut nodes[..most]);
-        lent::tree(readings, &settings, TreeRoom { sums: &mut sums, rows, gains, nodes, cuts })
+        lent::tree(readings, &settings, Lists::default(), TreeRoom { sums: &mut sums, rows, gains, nodes, cuts })
     };
     assert_eq!(number(grown(6, 7, &mut cuts)), 7);
     assert_eq!(number(grown(7, 6, &mut cuts)), 7);

@@ -1,15 +1,11 @@
 //! The marked cases of document 01, through both forms of the functions.
-use haspgarnet_changeforest::{lent, owned, Curves, Matrix, Node, Permutations, Record, Refusal, Settings};
+use haspgarnet_changeforest::{lent, owned, Curves, Matrix, Permutations, Record, Refusal, Segments, Settings};
 
 mod common;
-use common::{column, place, with_m};
+use common::{choice, column, place, with_m};
 
 fn ends(record: &Record) -> (usize, usize) {
     (record.start, record.stop)
-}
-
-fn choice(node: &Node) -> Option<(usize, usize, usize, f64)> {
-    node.choice().map(|record| (record.start, record.stop, record.split, record.gain))
 }
 
 #[test]
@@ -45,7 +41,8 @@ fn the_first_of_equal_gains_wins() {
 #[test]
 fn the_whole_case() {
     let readings = column(&[0.0, 0.0, 0.0, 0.0, 8.0, 8.0, 8.0, 8.0]);
-    let tree = owned::tree(readings, &Settings { threshold: 10.0, ..with_m(1) }).unwrap();
+    let settings = Settings { threshold: 10.0, ..with_m(1) };
+    let tree = owned::tree(readings, &settings, Segments::None).unwrap();
     assert_eq!(tree.cuts, [4]);
     assert_eq!(tree.nodes.len(), 3);
     let whole = tree.nodes[0];
@@ -57,24 +54,29 @@ fn the_whole_case() {
 
 #[test]
 fn the_most_nodes() {
-    let everywhere = |m| Settings { threshold: -1.0, ..with_m(m) };
-    let tree = owned::tree(column(&[0.0; 5]), &everywhere(1)).unwrap();
+    let everywhere = |n, m| {
+        let settings = Settings { threshold: -1.0, ..with_m(m) };
+        owned::tree(column(&vec![0.0; n]), &settings, Segments::None).unwrap()
+    };
+    let tree = everywhere(5, 1);
     assert_eq!((tree.cuts, tree.nodes.len()), (vec![1, 2, 3], 7));
     assert_eq!(tree.nodes[1].choice(), None);
     for (n, m) in [(1, 1), (2, 2), (100, 7), (4096, 1)] {
         let most = (2 * ((n - 1) / m)).max(2) - 1;
-        assert_eq!(owned::tree(column(&vec![0.0; n]), &everywhere(m)).unwrap().nodes.len(), most);
+        assert_eq!(everywhere(n, m).nodes.len(), most);
     }
 }
 
 #[test]
 fn a_choice_may_be_a_seeded_segments() {
-    let layered = |threshold| Settings { threshold, layers: &[0.5], ..with_m(1) };
-    let tree = owned::tree(column(&[0.0; 20]), &layered(0.0)).unwrap();
-    assert_eq!((tree.nodes.len(), tree.records.len()), (1, 4));
+    let layered = |readings, threshold| {
+        owned::tree(readings, &Settings { threshold, ..with_m(1) }, Segments::Layers(&[0.5])).unwrap()
+    };
+    let tree = layered(column(&[0.0; 20]), 0.0);
+    assert_eq!((tree.nodes.len(), tree.records.len(), tree.stored), (1, 4, 3));
     let mut bump = [0.0; 20];
     bump[5..10].fill(8.0);
-    let tree = owned::tree(column(&bump), &layered(10.0)).unwrap();
+    let tree = layered(column(&bump), 10.0);
     assert_eq!(tree.cuts, [5, 10]);
     assert_eq!(choice(&tree.nodes[0]), Some((0, 10, 5, 160.0)));
 }
@@ -100,8 +102,8 @@ fn permutations() {
 #[test]
 fn layers() {
     let seeded = |v| -> Vec<(usize, usize)> {
-        let settings = Settings { layers: &[v], ..with_m(1) };
-        owned::seeded_segments(column(&[0.0; 20]), &settings).unwrap().iter().map(ends).collect()
+        let stored = owned::stored_segments(column(&[0.0; 20]), &with_m(1), Segments::Layers(&[v]));
+        stored.unwrap().iter().map(ends).collect()
     };
     assert_eq!(seeded(0.5), [(0, 10), (5, 15), (10, 20)]);
     assert_eq!(seeded(0.25), [0, 2, 5, 7, 10, 12, 15].map(|a| (a, a + 5)));
@@ -111,8 +113,7 @@ fn layers() {
 fn room_is_enough_for_every_layer() {
     for k in 1..4096 {
         let v = k as f64 / 4096.0;
-        let settings = Settings { layers: &[v], ..with_m(1) };
-        assert!(owned::seeded_segments(column(&[0.0]), &settings).is_ok(), "{v}");
+        assert!(owned::stored_segments(column(&[0.0]), &with_m(1), Segments::Layers(&[v])).is_ok(), "{v}");
     }
 }
 
@@ -145,7 +146,8 @@ fn to_the_others_an_empty_list_is_none() {
     let readings = column(&[0.0, 0.0, 8.0, 0.0, 0.0]);
     assert_eq!(owned::split_candidates(5, 0..5, &listed), owned::split_candidates(5, 0..5, &unlisted));
     assert_eq!(owned::find_best_split(readings, 1..5, &listed), owned::find_best_split(readings, 1..5, &unlisted));
-    assert_eq!(owned::tree(readings, &listed), owned::tree(readings, &unlisted));
+    let tree = |settings| owned::tree(readings, settings, Segments::Layers(&[0.5]));
+    assert_eq!(tree(&listed), tree(&unlisted));
     let pick = |settings| lent::pick(readings.cells, 5, 0..5, 1, settings);
     assert_eq!(pick(&listed), pick(&unlisted));
 }
@@ -158,8 +160,8 @@ fn the_page() -> Result<(), Refusal> {
         8.0, 10.0, 9.0, 11.0, 8.0, 10.0, 9.0, 15.0, 8.0, 15.0, 9.0, 14.0,
     ];
     let readings = Matrix { cells: &cells, rows: 12, columns: 2 };
-    let settings = Settings { m: 2, threshold: 10.0, forbidden: Some(&[2, 3]), layers: &[0.5], ..Settings::default() };
-    let sheet = owned::tree(readings, &settings)?.cuts;
+    let settings = Settings { m: 2, threshold: 10.0, forbidden: Some(&[2, 3]), ..Settings::default() };
+    let sheet = owned::tree(readings, &settings, Segments::Layers(&[0.5]))?.cuts;
     assert_eq!(sheet, [5, 9]);
     Ok(())
 }

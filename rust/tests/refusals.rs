@@ -1,6 +1,6 @@
 //! Every refusal, and that it leaves what was lent as it was.
 use haspgarnet_changeforest::lent::{self, TreeRoom};
-use haspgarnet_changeforest::{owned, Curves, Matrix, Node, Permutations, Settings};
+use haspgarnet_changeforest::{owned, Curves, Lists, Matrix, Node, Permutations, Segments, Settings};
 use std::ops::Range;
 
 mod common;
@@ -21,15 +21,15 @@ fn what_must_be_given_is_refused_where_it_is_not() {
     let readings = column(&[0.0; 5]);
     assert_eq!(number(owned::split_candidates(5, 0..5, &nothing)), 2);
     assert_eq!(number(owned::find_best_split(readings, 0..5, &nothing)), 2);
-    assert_eq!(number(owned::seeded_segments(readings, &nothing)), 2);
-    assert_eq!(number(owned::tree(readings, &nothing)), 2);
-    assert_eq!(number(owned::tree(readings, &with_m(1))), 3);
+    assert_eq!(number(owned::stored_segments(readings, &nothing, Segments::None)), 2);
+    assert_eq!(number(owned::tree(readings, &nothing, Segments::None)), 2);
+    assert_eq!(number(owned::tree(readings, &with_m(1), Segments::None)), 3);
     assert_eq!(number(lent::pick(&[0.0; 5], 5, 0..5, 2, &nothing)), 2);
     assert_eq!(number(lent::guesses(5, 0..5, &nothing)), 2);
     assert_eq!(number(lent::permutation_test(Curves::default(), Permutations::default(), 1.0, &with_m(1))), 3);
     assert_eq!(number(owned::gain(Matrix::default(), 0..0, 0)), 1);
     let enough = Settings { threshold: 0.0, ..with_m(1) };
-    assert_eq!(number(lent::tree(readings, &enough, TreeRoom::default())), 7);
+    assert_eq!(number(lent::tree(readings, &enough, Lists::default(), TreeRoom::default())), 7);
 }
 
 #[test]
@@ -44,34 +44,34 @@ fn sizes() {
 
 #[test]
 fn values() {
-    let layered = |layers| Settings { layers, ..with_m(1) };
+    let layered = |layers| owned::stored_segments(column(&[0.0]), &with_m(1), Segments::Layers(layers));
     assert_eq!(number(owned::find_best_split(column(&[0.0, f64::NAN, 0.0]), 0..3, &with_m(1))), 4);
     assert_eq!(number(owned::gain_from_likelihoods(&[f64::INFINITY], &[0.0])), 4);
     assert_eq!(number(owned::split_candidates(10, 0..10, &barring(&[3]))), 5);
     assert_eq!(number(owned::split_candidates(10, 0..10, &barring(&[3, 2]))), 5);
-    assert_eq!(number(owned::seeded_segments(column(&[0.0]), &layered(&[1.0]))), 6);
-    assert_eq!(number(owned::seeded_segments(column(&[0.0]), &layered(&[0.5; 65]))), 6);
+    assert_eq!(number(layered(&[1.0])), 6);
+    assert_eq!(number(layered(&[0.5; 65])), 6);
 }
 
 #[test]
 fn trees() {
     let cut_at = |threshold| Settings { threshold, ..with_m(1) };
     let readings = column(&[0.0; 5]);
-    assert_eq!(number(owned::tree(readings, &cut_at(f64::NAN))), 3);
-    assert_eq!(number(owned::tree(readings, &Settings { layers: &[0.0], ..cut_at(0.0) })), 6);
-    assert_eq!(number(owned::tree(HUGE_MATRIX, &cut_at(0.0))), 1);
+    assert_eq!(number(owned::tree(readings, &cut_at(f64::NAN), Segments::None)), 3);
+    assert_eq!(number(owned::tree(readings, &cut_at(0.0), Segments::Layers(&[0.0]))), 6);
+    assert_eq!(number(owned::tree(HUGE_MATRIX, &cut_at(0.0), Segments::None)), 1);
     let (mut sums, mut rows, mut gains) = ([7.5; 6], [77; 21], [7.5; 7]);
     let (mut nodes, mut cuts) = ([Node::default(); 7], [77; 3]);
     let mut grown = |most: usize, cuts: &mut [usize]| {
         let nodes = &mut nodes[..most];
         let room = TreeRoom { sums: &mut sums, rows: &mut rows, gains: &mut gains, nodes, cuts };
-        lent::tree(readings, &cut_at(-1.0), room)
+        lent::tree(readings, &cut_at(-1.0), Lists::default(), room)
     };
     assert_eq!(number(grown(6, &mut cuts)), 7);
     assert_eq!(number(grown(7, &mut cuts[..2])), 7);
     assert_eq!(cuts, [77; 3]);
     let counts = grown(7, &mut cuts).unwrap();
-    assert_eq!((counts.nodes, counts.records, counts.cuts), (7, 3, 3));
+    assert_eq!((counts.nodes, counts.records, counts.cuts, counts.stored), (7, 3, 3, 0));
     assert_eq!(cuts, [1, 2, 3]);
 }
 

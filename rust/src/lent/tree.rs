@@ -1,11 +1,11 @@
-//! Seeded segments and the tree of a run.
+//! Stored segments and the tree of a run.
 use std::thread;
 
 use crate::refusal::unless;
-use crate::{ffi, Counts, Matrix, Node, Refusal, Settings};
+use crate::{ffi, Counts, Lists, Matrix, Node, Refusal, Settings};
 
-/// The memory that seeded segments are searched in. With T the layers' segments summed: sums `(rows + 1) * columns`, rows `3 * T`,
-/// gains T.
+/// The memory that segments are stored in. With T the most that draws may leave, or where there are none the layers' segments summed:
+/// sums `(rows + 1) * columns`, rows `3 * T`, gains T.
 #[derive(Debug, Default)]
 pub struct SegmentsRoom<'a> {
     /// Takes the prefix sums.
@@ -16,13 +16,18 @@ pub struct SegmentsRoom<'a> {
     pub gains: &'a mut [f64],
 }
 
-/// The records of the seeded segments of all layers; how many. Reads m, closed, forbidden and layers.
-/// Refusals: 1, 2, 4, 5, 6, 7.
-pub fn seeded_segments(matrix: Matrix, settings: &Settings, room: SegmentsRoom) -> Result<usize, Refusal> {
-    let (barred, layers) = (settings.barred(), settings.layers);
+/// The records that searching the lists' segments stores; how many. Reads m, closed and forbidden.
+/// Refusals: 1, 2, 4, 5, 6, 7, 8 (draws).
+pub fn stored_segments(
+    matrix: Matrix,
+    settings: &Settings,
+    lists: Lists,
+    room: SegmentsRoom,
+) -> Result<usize, Refusal> {
+    let barred = settings.barred();
     let mut count = 0;
     let no = unsafe {
-        ffi::changeforest_seeded_segments(
+        ffi::changeforest_stored_segments(
             matrix.cells.as_ptr(),
             matrix.cells.len(),
             matrix.rows,
@@ -31,8 +36,11 @@ pub fn seeded_segments(matrix: Matrix, settings: &Settings, room: SegmentsRoom) 
             settings.closed,
             barred.as_ptr(),
             barred.len(),
-            layers.as_ptr(),
-            layers.len(),
+            lists.layers.as_ptr(),
+            lists.layers.len(),
+            lists.draws.as_ptr(),
+            lists.draws.len(),
+            lists.most,
             room.sums.as_mut_ptr(),
             room.sums.len(),
             room.rows.as_mut_ptr(),
@@ -51,7 +59,7 @@ pub fn seeded_segments(matrix: Matrix, settings: &Settings, room: SegmentsRoom) 
 pub struct TreeRoom<'a> {
     /// Takes the prefix sums.
     pub sums: &'a mut [f64],
-    /// Start, stop and best split of each record, three entries a record; those of the seeded segments first.
+    /// Start, stop and best split of each record, three entries a record; the stored ones first.
     pub rows: &'a mut [usize],
     /// The gain of each record.
     pub gains: &'a mut [f64],
@@ -61,12 +69,12 @@ pub struct TreeRoom<'a> {
     pub cuts: &'a mut [usize],
 }
 
-/// The tree of the run: how many nodes, records and cuts it has. Reads m, closed, threshold, forbidden and layers. A tree that can be
-/// deeper than 128 levels is grown on a thread of its own; one that can't takes up to 144 KiB of the caller's stack. Refusals: 1, 2,
-/// 3 (threshold), 4, 5, 6, 7; 0 where there is no such thread.
-pub fn tree(matrix: Matrix, settings: &Settings, room: TreeRoom) -> Result<Counts, Refusal> {
-    let (barred, layers) = (settings.barred(), settings.layers);
-    let mut counts = [0; 3];
+/// The tree of the run, over what [`stored_segments`] stores: how many nodes, records and cuts it has, and how many records were stored.
+/// Reads m, closed, threshold and forbidden. A tree that can be deeper than 128 levels is grown on a thread of its own; one that can't
+/// takes up to 144 KiB of the caller's stack. Refusals: 1, 2, 3 (threshold), 4, 5, 6, 7, 8 (draws); 0 where there is no such thread.
+pub fn tree(matrix: Matrix, settings: &Settings, lists: Lists, room: TreeRoom) -> Result<Counts, Refusal> {
+    let barred = settings.barred();
+    let mut counts = [0; 4];
     let no = grown(most_levels(matrix.rows, settings), || unsafe {
         ffi::changeforest_tree(
             matrix.cells.as_ptr(),
@@ -78,8 +86,11 @@ pub fn tree(matrix: Matrix, settings: &Settings, room: TreeRoom) -> Result<Count
             settings.threshold,
             barred.as_ptr(),
             barred.len(),
-            layers.as_ptr(),
-            layers.len(),
+            lists.layers.as_ptr(),
+            lists.layers.len(),
+            lists.draws.as_ptr(),
+            lists.draws.len(),
+            lists.most,
             room.sums.as_mut_ptr(),
             room.sums.len(),
             room.rows.as_mut_ptr(),
@@ -94,8 +105,8 @@ pub fn tree(matrix: Matrix, settings: &Settings, room: TreeRoom) -> Result<Count
             counts.len(),
         )
     })?;
-    let [nodes, records, cuts] = counts;
-    unless(no, Counts { nodes, records, cuts })
+    let [nodes, records, cuts, stored] = counts;
+    unless(no, Counts { nodes, records, cuts, stored })
 }
 
 /// The stack that a tree takes, by the header's bounds: for each level, and besides, with what a thread takes itself.

@@ -1,6 +1,6 @@
 //! What the files of tests share; not each uses all of it.
 #![allow(dead_code)]
-use haspgarnet_changeforest::{Matrix, Refusal, Settings, Split};
+use haspgarnet_changeforest::{Matrix, Node, Record, Refusal, Settings, Split};
 use std::fmt::Debug;
 
 pub fn column(cells: &[f64]) -> Matrix<'_> {
@@ -13,6 +13,14 @@ pub fn with_m(m: usize) -> Settings<'static> {
 
 pub fn place(found: Split) -> (usize, f64) {
     (found.split, found.gain)
+}
+
+pub fn fields(record: &Record) -> (usize, usize, usize, f64) {
+    (record.start, record.stop, record.split, record.gain)
+}
+
+pub fn choice(node: &Node) -> Option<(usize, usize, usize, f64)> {
+    node.choice().as_ref().map(fields)
 }
 
 pub fn number<T: Debug>(answer: Result<T, Refusal>) -> u32 {
