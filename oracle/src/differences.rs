@@ -1,5 +1,5 @@
-//! The probes of docs/DIFFERENCES.md: what the Rust does with small inputs that document 01 refuses
-//! or reads otherwise. No rule is asked here. One line for each, `panics` where it does.
+//! The probes of docs/DIFFERENCES.md: what the Rust does with small inputs that documents 01 and 02
+//! refuse or read otherwise. No rule is asked here. One line for each, `panics` where it does.
 
 #[allow(dead_code)]
 #[path = "oracle/original.rs"]
@@ -7,7 +7,7 @@ mod original;
 
 use changeforest::optimizer::OptimizerResult;
 use changeforest::{Control, ModelSelectionResult, Optimizer, Segmentation, SegmentationType};
-use protocol::{Matrix, Perm, Segment, Shortest};
+use protocol::{Lists, Matrix, Perm, Segment, Shortest, Stored, Tree};
 use std::cell::RefCell;
 use std::fmt::Debug;
 use std::panic::{catch_unwind, AssertUnwindSafe};
@@ -67,9 +67,14 @@ fn sizes_and_lengths() {
     });
 }
 
+/// What is stored of a run, m being 1 and nothing forbidden.
+fn storing(matrix: Matrix, lists: Lists) -> Stored {
+    Stored { matrix, shortest: whole(1), forbidden: None, lists }
+}
+
 fn nodes(cells: &[f64], d: usize, threshold: f64) -> usize {
-    let matrix = Matrix { d, ..column(cells) };
-    original::tree(&matrix, whole(1), threshold, &None, &[]).nodes.len()
+    let stored = storing(Matrix { d, ..column(cells) }, Lists::default());
+    original::tree(&Tree { stored, threshold }).nodes.len()
 }
 
 fn thresholds() {
@@ -246,12 +251,40 @@ fn layers() {
             (false, _) => println!("layer {value}, n 4: more than {MANY} segments"),
         }
     }
-    probe("layer 1/5000, n 4, records", || {
-        original::tree(&column(&[0.0; 4]), whole(1), 0.0, &None, &[1.0 / 5000.0]).records.len()
+    let records = |n: usize, layers: &[f64]| {
+        let lists = Lists { layers: layers.into(), ..Lists::default() };
+        let stored = storing(column(&vec![0.0; n]), lists);
+        original::tree(&Tree { stored, threshold: 0.0 }).records.len()
+    };
+    probe("layer 1/5000, n 4, records", || records(4, &[1.0 / 5000.0]));
+    probe("65 layers of 0.5, n 6, m 1, records", || records(6, &[0.5; 65]));
+}
+
+/// How many records a list of draws leaves of n rows of 0, m being 1, and whether some draws are left:
+/// where none are, and fewer than W records stand, the Rust itself draws on.
+fn drawn(n: usize, draws: &[[usize; 2]], w: usize) -> (usize, bool) {
+    let lists = Lists { draws: draws.concat(), w, ..Lists::default() };
+    let stored = original::stored(&storing(column(&vec![0.0; n]), lists));
+    (stored.len(), rand::draws_left())
+}
+
+fn draws() {
+    let every = [0, 1, 2].map(|start| [0, 1, 2].map(|stop| [start, stop])).concat();
+    let many: Vec<_> = every.into_iter().cycle().take(MANY).collect();
+    let told = "records, and whether draws are left";
+    probe(&format!("{MANY} draws, all pairs of 0 1 2 in turn, n 2, W 1, {told}"), || {
+        drawn(2, &many, 1)
     });
-    probe("65 layers of 0.5, n 6, m 1, records", || {
-        original::tree(&column(&[0.0; 6]), whole(1), 0.0, &None, &[0.5; 65]).records.len()
+    probe(&format!("draw (0,3), n 3, W 0, {told}"), || drawn(3, &[[0, 3]], 0));
+    probe(&format!("4098 draws (0,3), n 3, W 4097, {told}"), || drawn(3, &[[0, 3]; 4_098], 4_097));
+    probe(&format!("draw (0,6), n 4, W 1, {told}"), || drawn(4, &[[0, 6]], 1));
+    probe(&format!("draw (6,5), n 4, W 1, {told}"), || drawn(4, &[[6, 5]], 1));
+    probe(&format!("draws (0,4) (0,6), n 4, W 1, {told}"), || drawn(4, &[[0, 4], [0, 6]], 1));
+    probe("layer 0.5, n 6, W 4097, records", || {
+        let lists = Lists { layers: vec![0.5], w: 4_097, ..Lists::default() };
+        original::stored(&storing(column(&[0.0; 6]), lists)).len()
     });
+    probe("W by default", || Control::default().number_of_wild_segments);
 }
 
 /// powi(2) is one product, on bit patterns of every sort.
@@ -277,5 +310,6 @@ fn main() {
     curves();
     permutations();
     layers();
+    draws();
     square();
 }

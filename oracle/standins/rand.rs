@@ -1,16 +1,27 @@
-//! A stand-in for the crate `rand`: `seq::index::sample` hands out lent permutations, one a call.
-//! Nothing here draws; the draws of WBS, which isn't carried, end the program.
+//! A stand-in for the crate `rand`: `seq::index::sample` hands out lent permutations, one a call, and a
+//! distribution's `sample` lent numbers. Nothing here draws.
 
 use std::cell::RefCell;
 use std::collections::VecDeque;
 
 thread_local! {
-    static LENT: RefCell<VecDeque<Vec<usize>>> = const { RefCell::new(VecDeque::new()) };
+    static PERMUTATIONS: RefCell<VecDeque<Vec<usize>>> = const { RefCell::new(VecDeque::new()) };
+    static DRAWS: RefCell<VecDeque<usize>> = const { RefCell::new(VecDeque::new()) };
 }
 
 /// Lends the permutations that the next calls of `sample` hand out.
-pub fn lend(permutations: impl Iterator<Item = Vec<usize>>) {
-    LENT.with(|lent| *lent.borrow_mut() = permutations.collect());
+pub fn lend_permutations(permutations: impl Iterator<Item = Vec<usize>>) {
+    PERMUTATIONS.set(permutations.collect());
+}
+
+/// Lends the numbers that the next calls of a distribution's `sample` hand out.
+pub fn lend_draws(draws: &[usize]) {
+    DRAWS.set(draws.iter().copied().collect());
+}
+
+/// Whether some of them are left: WBS, as patched, ends with the last.
+pub fn draws_left() -> bool {
+    DRAWS.with_borrow(|draws| !draws.is_empty())
 }
 
 pub trait SeedableRng {
@@ -38,7 +49,7 @@ pub mod seq {
         }
 
         pub fn sample(_: &mut crate::rngs::StdRng, length: usize, amount: usize) -> IndexVec {
-            let lent = crate::LENT.with(|lent| lent.borrow_mut().pop_front());
+            let lent = crate::PERMUTATIONS.with_borrow_mut(|lent| lent.pop_front());
             let permutation = lent.expect("no permutation is lent");
             assert!(permutation.len() == length && length == amount);
             IndexVec(permutation)
@@ -61,7 +72,7 @@ pub mod distributions {
 
     impl Distribution<usize> for Uniform {
         fn sample(&self, _: &mut crate::rngs::StdRng) -> usize {
-            unimplemented!("nothing is drawn")
+            crate::DRAWS.with_borrow_mut(|draws| draws.pop_front()).expect("no draw is lent")
         }
     }
 }

@@ -18,6 +18,9 @@ pub struct Draft {
     pub value: f64,
     pub max: f64,
     pub layers: Vec<f64>,
+    /// Flat pairs.
+    pub draws: Vec<u64>,
+    pub w: u64,
     pub cells: Vec<f64>,
     /// Both likelihood rows, the pick's curve, or the deltas.
     pub curves: Vec<Vec<f64>>,
@@ -71,24 +74,24 @@ impl Draft {
         self.forbidden.as_deref().map_or("-".into(), numbers)
     }
 
+    /// Layers, draws and W.
+    fn lists(&self) -> String {
+        format!("{} {} {}", values(&self.layers), numbers(&self.draws), self.w)
+    }
+
     fn fields(&self) -> String {
-        let (n, d, cells) = (self.n, self.d, values(&self.cells));
+        let (n, d, m, cells) = (self.n, self.d, self.m, values(&self.cells));
         let (start, stop, split) = (self.start, self.stop, self.split);
+        let (value, barred) = (bits(self.value), self.barred());
         match self.kind {
-            "rel" => format!("{} {n}", bits(self.value)),
-            "f32" => bits(self.value),
+            "rel" => format!("{value} {n}"),
+            "f32" => value,
             "cand" | "guesses" => format!("{n} {}", self.ends()),
             "gain" | "knn" => format!("{n} {d} {start} {stop} {split} {cells}"),
             "search" => format!("{n} {d} {} {cells}", self.ends()),
-            "seeded" => {
-                let (forbidden, layers) = (self.barred(), values(&self.layers));
-                format!("{n} {d} {} {forbidden} {layers} {cells}", self.m)
-            }
-            "tree" => {
-                let (forbidden, layers) = (self.barred(), values(&self.layers));
-                let threshold = bits(self.value);
-                format!("{n} {d} {} {threshold} {forbidden} {layers} {cells}", self.m)
-            }
+            "stored" => format!("{n} {d} {m} {barred} {} {cells}", self.lists()),
+            "tree" => format!("{n} {d} {m} {value} {barred} {} {cells}", values(&self.layers)),
+            "wild" => format!("{n} {d} {m} {value} {barred} {} {cells}", self.lists()),
             "order" => format!("{n} {d} {cells}"),
             "curve" => format!("{} {}", values(&self.curves[0]), values(&self.curves[1])),
             "pick" => format!("{n} {} {split} {}", self.ends(), values(&self.curves[0])),

@@ -1,16 +1,20 @@
 //! A case of each kind, most of them small. Those at a limit are in limits.rs.
 
 use crate::draft::Draft;
+use crate::draws;
 use crate::random::Random;
 use crate::values;
 
-pub const KINDS: [&str; 13] = [
-    "rel", "f32", "cand", "gain", "search", "seeded", "tree", "order", "knn", "curve", "pick",
-    "guesses", "perm",
+pub const KINDS: [&str; 14] = [
+    "rel", "f32", "cand", "gain", "search", "stored", "tree", "wild", "order", "knn", "curve",
+    "pick", "guesses", "perm",
 ];
 
 /// Those that take the prefix `closed`.
-pub const CLOSED: [&str; 7] = ["cand", "search", "seeded", "tree", "pick", "guesses", "perm"];
+pub const CLOSED: [&str; 7] = ["cand", "search", "tree", "wild", "pick", "guesses", "perm"];
+
+/// Those that take draws.
+pub const DRAWING: [&str; 2] = ["stored", "wild"];
 
 pub const FAR: [u64; 4] = [u64::MAX, u64::MAX - 1, 1 << 63, 1 << 40];
 
@@ -242,7 +246,7 @@ pub fn draft(random: &mut Random, kind: &'static str, closed_in: u64) -> Draft {
     let n = rows(random);
     let closed = CLOSED.contains(&kind) && random.one_in(closed_in);
     let mut draft = Draft { kind, n, closed, ..Draft::default() };
-    if matches!(kind, "gain" | "search" | "seeded" | "tree" | "order" | "knn") {
+    if matches!(kind, "gain" | "search" | "stored" | "tree" | "wild" | "order" | "knn") {
         let n = if matches!(kind, "order" | "knn") { n.min(100) } else { n };
         let d = columns(random, n);
         matrix(random, &mut draft, n, d);
@@ -274,14 +278,11 @@ pub fn draft(random: &mut Random, kind: &'static str, closed_in: u64) -> Draft {
             ends(random, &mut draft);
             draft.split = random.between(draft.start, draft.stop);
         }
-        "seeded" => {
+        "stored" => {
             segment(random, &mut draft);
             draft.layers = values::layers(random);
-            if draft.layers.is_empty() {
-                draft.layers = values::layers(random);
-            }
         }
-        "tree" => {
+        "tree" | "wild" => {
             segment(random, &mut draft);
             draft.value = threshold(random);
             draft.layers = values::layers(random);
@@ -299,6 +300,9 @@ pub fn draft(random: &mut Random, kind: &'static str, closed_in: u64) -> Draft {
         }
         "perm" => perm(random, &mut draft),
         _ => unreachable!(),
+    }
+    if DRAWING.contains(&kind) {
+        draws::lists(random, &mut draft);
     }
     draft
 }

@@ -1,22 +1,25 @@
-//! Cases at the limits of document 01, at the capacities of docs/REPLAY.md and past them, and cases
-//! that the others seldom come to. A long list or a wide matrix makes a slow case of a deep tree, so
-//! those that are long in one way are short in another. What is past the capacities is in wide.rs.
+//! Cases at the limits of documents 01 and 02, at the capacities of docs/REPLAY.md and past them, and
+//! cases that the others seldom come to. A long list or a wide matrix makes a slow case of a deep tree,
+//! so those that are long in one way are short in another. What is past the capacities is in wide.rs.
 
 use crate::draft::Draft;
+use crate::draws::{self, Sort};
 use crate::kinds::{matrix, maximum, permutations, pick};
 use crate::random::Random;
 use crate::values::{self, fine_layers, SMALLEST_LAYER};
 
-/// The most pairs of a forbidden list.
+/// The most pairs of a forbidden list, and the most draws.
 const PAIRS: u64 = 1_024;
+const DRAWS: u64 = 4_096;
 
-/// Makes of a case one at a limit of document 01, or of the page's capacities.
+/// Makes of a case one at a limit of documents 01 and 02, or of the page's capacities.
 pub fn at_limit(random: &mut Random, draft: &mut Draft) {
     draft.short = None;
     match draft.kind {
         "gain" | "search" => searched(random, draft),
-        "seeded" => seeded(random, draft),
-        "tree" => tree(random, draft),
+        "stored" | "wild" if !random.one_in(3) => drawn(random, draft),
+        "stored" => layered(random, draft),
+        "tree" | "wild" => tree(random, draft),
         "order" | "knn" => {
             let some = random.between(513, 1_022);
             let n = random.of(&[512, some, 1_023, 1_024]);
@@ -69,11 +72,37 @@ fn searched(random: &mut Random, draft: &mut Draft) {
     }
 }
 
+/// Draws up to their capacity, now and then one past it: long ones, any, short ones over a long list, or
+/// few over one. The tree over them is seldom cut, or everywhere.
+fn drawn(random: &mut Random, draft: &mut Draft) {
+    let (few, some) = (random.between(3, 9), random.between(10, 4_095));
+    let (n, d) = (random.of(&[4_096, 4_096, few, some]), random.of(&[1, 1, 2, 3, 8]));
+    matrix(random, draft, n, d);
+    (draft.m, draft.value) = (random.of(&[1, 1, 7]), random.of(&[f64::MAX, 40.0, 23.0, 12.0]));
+    (draft.layers, draft.forbidden) = (vec![], None);
+    let some = random.between(81, DRAWS);
+    let most = random.of(&[some, DRAWS, DRAWS, DRAWS, DRAWS + 1]);
+    let (sort, count, listed) = random.of(&[
+        (Sort::Long, most, false),
+        (Sort::Any, most, false),
+        (Sort::Short, most, true),
+        (Sort::Any, 40, true),
+    ]);
+    if listed {
+        draft.forbidden = Some(full_list(random, n));
+    } else if random.one_in(6) {
+        (draft.cells, draft.value) = (vec![0.0; (n * d) as usize], -1.0);
+    }
+    draws::draw(random, draft, sort, count);
+    let beside = draws::most(random, draft);
+    draft.w = random.of(&[draws::MOST, beside]);
+}
+
 /// Many short segments, the most layers, a long list, or a large run.
-fn seeded(random: &mut Random, draft: &mut Draft) {
+fn layered(random: &mut Random, draft: &mut Draft) {
     let d = random.of(&[1, 1, 2, 3, 8]);
     matrix(random, draft, 4_096, d);
-    (draft.m, draft.forbidden) = (random.of(&[1, 1, 2]), None);
+    (draft.m, draft.forbidden, draft.draws) = (random.of(&[1, 1, 2]), None, vec![]);
     match random.below(12) {
         0 => draft.layers = most_layers(random),
         1..=4 => {
@@ -96,7 +125,8 @@ fn seeded(random: &mut Random, draft: &mut Draft) {
 /// A deep tree, one over a long list, one with the most layers or many short segments, or a large one.
 fn tree(random: &mut Random, draft: &mut Draft) {
     matrix(random, draft, 4_096, 1);
-    (draft.m, draft.forbidden, draft.layers) = (random.of(&[1, 7, 2_047]), None, vec![]);
+    (draft.m, draft.forbidden) = (random.of(&[1, 7, 2_047]), None);
+    (draft.layers, draft.draws) = (vec![], vec![]);
     match random.below(16) {
         0 => (),
         1 | 2 => {

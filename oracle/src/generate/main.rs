@@ -3,6 +3,7 @@
 //! refusal alone and two at a time, room that is short, limits, and lines that are no case.
 
 mod draft;
+mod draws;
 mod kinds;
 mod limits;
 mod random;
@@ -11,7 +12,7 @@ mod values;
 mod wide;
 
 use draft::Draft;
-use kinds::KINDS;
+use kinds::{DRAWING, KINDS};
 use random::Random;
 use std::io::Write;
 
@@ -54,9 +55,14 @@ fn line(random: &mut Random, sort: &str, kind: &'static str, closed_in: u64) -> 
     draft.line()
 }
 
+/// One or two refusals for some cases; for more of a kind with draws, which has the most.
 fn spoiled(random: &mut Random, draft: &mut Draft) {
     let (numbers, slices) = (spoil::numbers(draft.kind), spoil::slices(draft.kind));
-    let spoils = if numbers.is_empty() { 0 } else { random.weighted(&[70, 18, 12]) };
+    let spoils = match draft.kind {
+        _ if numbers.is_empty() => 0,
+        kind if DRAWING.contains(&kind) => random.weighted(&[60, 16, 24]),
+        _ => random.weighted(&[70, 18, 12]),
+    };
     for _ in 0..spoils {
         let number = random.of(numbers);
         spoil::spoil(random, draft, number);

@@ -1,7 +1,7 @@
 //! Turns a case into one that a given refusal applies to, and a line into one that is no case.
 
 use crate::draft::Draft;
-use crate::kinds::{permutations, CLOSED, FAR};
+use crate::kinds::{permutations, CLOSED, DRAWING, FAR};
 use crate::random::Random;
 use crate::values;
 
@@ -12,8 +12,9 @@ pub fn numbers(kind: &str) -> &'static [u64] {
         "cand" => &[1, 2, 5, 7, 8, 9, 10],
         "gain" | "knn" => &[1, 4, 7, 8],
         "search" => &[1, 2, 4, 5, 7, 8, 9, 10],
-        "seeded" => &[1, 2, 4, 5, 6, 6, 7, 7],
+        "stored" => &[1, 2, 4, 5, 6, 6, 7, 7, 8],
         "tree" => &[1, 2, 3, 4, 5, 6, 6, 7, 7],
+        "wild" => &[1, 2, 3, 4, 5, 6, 6, 7, 7, 8],
         "order" => &[1, 4, 7],
         "curve" => &[4, 7, 12],
         "pick" => &[1, 2, 5, 8, 9, 10, 12],
@@ -27,9 +28,9 @@ pub fn numbers(kind: &str) -> &'static [u64] {
 pub fn slices(kind: &str) -> u64 {
     match kind {
         "cand" | "gain" | "search" | "curve" => 1,
-        "order" | "seeded" => 2,
+        "order" | "stored" => 2,
         "knn" => 3,
-        "tree" => 4,
+        "tree" | "wild" => 4,
         _ => 0,
     }
 }
@@ -52,12 +53,15 @@ pub fn spoil(random: &mut Random, draft: &mut Draft, number: u64) {
                 f64::from_bits(random.of(&[0x7ff8 << 48, 0xfff8 << 48, 0x7ff0_dead_0000_0001]))
         }
         4 => infinite(random, draft),
+        5 if drawn_alone(draft) && random.one_in(2) => odd_draws(random, draft),
         5 => list(random, draft),
+        6 if DRAWING.contains(&draft.kind) && !random.one_in(3) => lists(random, draft),
         6 => layers(random, draft),
         7 => {
             let slice = random.between(1, slices(draft.kind));
             draft.short = Some((slice, random.of(&[1, 1, 1, 2, 3, 1_000, u64::MAX])));
         }
+        8 if DRAWING.contains(&draft.kind) => draw_outside(random, draft),
         8 => segment(random, draft),
         9 => {
             let length = match draft.kind {
@@ -131,6 +135,50 @@ fn layers(random: &mut Random, draft: &mut Draft) {
             let place = random.below(draft.layers.len() as u64 + 1) as usize;
             draft.layers.insert(place, values::bad_layer(random));
         }
+    }
+}
+
+/// Whether there are draws, or could be, without layers beside them.
+fn drawn_alone(draft: &Draft) -> bool {
+    DRAWING.contains(&draft.kind) && draft.layers.is_empty()
+}
+
+fn odd_draws(random: &mut Random, draft: &mut Draft) {
+    if random.one_in(2) || draft.draws.pop().is_none() {
+        draft.draws.push(random.below(9));
+    }
+}
+
+/// W above its size, or draws beside layers.
+fn lists(random: &mut Random, draft: &mut Draft) {
+    if !random.one_in(3) {
+        return draft.w = random.of(&[4_097, 4_097, 5_000, 1 << 63, u64::MAX]);
+    }
+    if draft.draws.is_empty() {
+        draft.draws = random.of(&[[0, draft.n], [1, 0]]).into();
+    }
+    if draft.layers.is_empty() {
+        draft.layers = vec![0.5];
+    }
+}
+
+/// A draw that stops past the run: one of those that are there, or one behind them, where W records may
+/// stand already; often one that is passed over.
+fn draw_outside(random: &mut Random, draft: &mut Draft) {
+    let far = random.of(&FAR);
+    let stop = random.of(&[draft.n.saturating_add(1), draft.n.saturating_add(2), far]);
+    let start = random.of(&[0, draft.n / 2, stop, u64::MAX]);
+    let pairs = draft.draws.len() as u64 / 2;
+    if pairs == 0 || random.one_in(2) {
+        if pairs == 0 {
+            draft.layers.clear();
+        }
+        return draft.draws.extend([start, stop]);
+    }
+    let place = 2 * random.below(pairs) as usize;
+    draft.draws[place + 1] = stop;
+    if random.one_in(3) {
+        draft.draws[place] = start;
     }
 }
 

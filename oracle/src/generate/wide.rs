@@ -1,14 +1,15 @@
 //! Cases that document 01 admits and that the page's capacities don't: for the wide ones.
 
 use crate::draft::Draft;
+use crate::draws::{self, Sort};
 use crate::kinds::{matrix, pick};
 use crate::limits::{long_list, permuted};
 use crate::random::Random;
 use crate::values::{fine_layers, SMALLEST_LAYER};
 
 /// The kinds that have such cases.
-pub const KINDS: [&str; 8] =
-    ["cand", "gain", "search", "seeded", "tree", "pick", "guesses", "perm"];
+pub const KINDS: [&str; 9] =
+    ["cand", "gain", "search", "stored", "tree", "wild", "pick", "guesses", "perm"];
 
 /// Makes such a case of one.
 pub fn at_wide(random: &mut Random, draft: &mut Draft) {
@@ -19,7 +20,8 @@ pub fn at_wide(random: &mut Random, draft: &mut Draft) {
             0 => columns(random, draft),
             _ => listed(random, draft),
         },
-        "seeded" | "tree" => layered(random, draft),
+        "stored" | "wild" if random.one_in(2) => drawn(random, draft),
+        "stored" | "tree" | "wild" => layered(random, draft),
         "perm" => {
             let some = random.between(263, 4_095);
             let (p, length) = random.of(&[(999, 263), (999, some), (999, 4_096), (1_000, 4_096)]);
@@ -57,11 +59,29 @@ fn listed(random: &mut Random, draft: &mut Draft) {
     draft.forbidden = Some(long_list(random, 4_096, pairs));
 }
 
+/// More than 4,096 draws, now and then one past the capacity, or a last one that is refused. Few are long
+/// enough or none, so that the list is gone through to its end; or many.
+fn drawn(random: &mut Random, draft: &mut Draft) {
+    let rows = random.between(20, 4_095);
+    let n = random.of(&[20, rows, 4_096, 4_096]);
+    matrix(random, draft, n, 1);
+    (draft.layers, draft.forbidden) = (vec![], None);
+    draft.m = random.of(&[1, n * 2 / 5, n * 9 / 20, n]);
+    let some = random.between(4_097, 99_999);
+    let count = random.of(&[4_097, some, some, 100_000, 100_000, 100_001]);
+    let sort = random.of(&[Sort::Any, Sort::Any, Sort::Short, Sort::Crossed]);
+    draws::draw(random, draft, sort, count);
+    draft.w = draws::most(random, draft);
+    let last = draft.draws.pop();
+    draft.draws.extend(random.of(&[None, Some(n + 1), last, last, last, last]));
+}
+
 /// A run of the most columns, the most layers, the most records, of a tree also a deep one, or a long
 /// list.
 fn layered(random: &mut Random, draft: &mut Draft) {
     matrix(random, draft, 4_096, 1);
-    (draft.m, draft.forbidden, draft.layers) = (1, None, vec![]);
+    (draft.m, draft.forbidden) = (1, None);
+    (draft.layers, draft.draws) = (vec![], vec![]);
     let seldom_cut = random.of(&[f64::MAX, 40.0, 23.0]);
     match random.below(4) {
         0 => {

@@ -3,7 +3,7 @@
 use crate::{original, rules};
 use protocol::{
     Cand, Capacities, Case, Curve, Gain, Guesses, Knn, Line, Order, Perm, Pick, Rel, Search,
-    Seeded, Tree, F32,
+    Stored, Tree, Wild, F32,
 };
 use std::panic::{catch_unwind, AssertUnwindSafe};
 
@@ -58,12 +58,9 @@ fn values(case: &Case) -> String {
             let found = original::search(matrix, segment);
             Search::answer(found.split, found.gain)
         }
-        Case::Seeded(Seeded { matrix, shortest, forbidden, layers }) => {
-            Seeded::answer(&original::seeded(matrix, *shortest, forbidden, layers))
-        }
-        Case::Tree(Tree { matrix, shortest, threshold, forbidden, layers }) => {
-            Tree::answer(&original::tree(matrix, *shortest, *threshold, forbidden, layers))
-        }
+        Case::Stored(case) => Stored::answer(&original::stored(case)),
+        Case::Tree(case) => Tree::answer(&original::tree(case)),
+        Case::Wild(Wild(case)) => Wild::answer(&original::tree(case)),
         Case::Order(Order { matrix }) => {
             let (ordering, distances) = original::order(matrix);
             Order::answer(&ordering, &distances)

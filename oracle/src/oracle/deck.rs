@@ -2,7 +2,7 @@
 //! grammar and the refusals are a second reading of that section; the tree is the Rust's.
 
 use crate::original;
-use protocol::{bits, value, Grown, Matrix, Shortest};
+use protocol::{bits, value, Grown, Lists, Matrix, Shortest, Stored, Tree};
 
 const LONGEST_LINE: usize = 1_024;
 const MOST_DIGITS: usize = 10;
@@ -85,7 +85,8 @@ impl Deck {
         let matrix = Matrix { n: self.n, d: self.d, cells };
         let forbidden = Some(self.pairs.concat());
         let shortest = Shortest { m: self.m, closed: false };
-        original::tree(&matrix, shortest, self.threshold, &forbidden, &[])
+        let stored = Stored { matrix, shortest, forbidden, lists: Lists::default() };
+        original::tree(&Tree { stored, threshold: self.threshold })
     }
 }
 

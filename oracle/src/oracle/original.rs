@@ -13,7 +13,7 @@ use changeforest::{
 use ndarray::{Array1, Array2, ArrayView2};
 use protocol::{
     Cand, Case, Forbidden, Grown, Guesses, Matrix, Node, Perm, Pick, Record, Rel, Search, Segment,
-    Shortest,
+    Shortest, Stored, Tree, Wild,
 };
 use std::panic::catch_unwind;
 
@@ -146,42 +146,45 @@ pub fn search(matrix: &Matrix, segment: &Segment) -> Record {
     record(&found.expect("an admitted segment has candidates"))
 }
 
-/// The segments of the lent layers, searched. "No layers means BS."
-fn segmentation(optimizer: &dyn Optimizer) -> Segmentation<'_> {
-    let kind = match optimizer.control().lent_layers.is_empty() {
-        true => SegmentationType::BS,
-        false => SegmentationType::SBS,
+/// The settings of a case that stores segments.
+fn storing(case: &Stored) -> Control {
+    let control = control(case.shortest, &case.forbidden);
+    let mut control = control.with_number_of_wild_segments(case.lists.w);
+    control.lent_layers = case.lists.layers.clone();
+    control
+}
+
+/// The lent segments, searched: those drawn (WBS), or those of the layers (SBS). "No layers means BS."
+fn segmentation<'a>(case: &Stored, optimizer: &'a dyn Optimizer) -> Segmentation<'a> {
+    rand::lend_draws(&case.lists.draws);
+    let kind = match (case.lists.draws.is_empty(), case.lists.layers.is_empty()) {
+        (false, _) => SegmentationType::WBS,
+        (true, false) => SegmentationType::SBS,
+        (true, true) => SegmentationType::BS,
     };
     Segmentation::new(kind, optimizer)
 }
 
 /// The records stored before a tree is grown.
-pub fn seeded(matrix: &Matrix, shortest: Shortest, no: &Forbidden, layers: &[f64]) -> Vec<Record> {
-    let (view, mut control) = (view(matrix), control(shortest, no));
-    control.lent_layers = layers.to_vec();
+pub fn stored(case: &Stored) -> Vec<Record> {
+    let (view, control) = (view(&case.matrix), storing(case));
     let grid = GridSearch { gain: ChangeInMean::new(&view, &control) };
-    segmentation(&grid).segments.iter().map(record).collect()
+    segmentation(case, &grid).segments.iter().map(record).collect()
 }
 
-pub fn tree(
-    matrix: &Matrix,
-    shortest: Shortest,
-    threshold: f64,
-    no: &Forbidden,
-    layers: &[f64],
-) -> Grown {
-    let view = view(matrix);
-    let mut control = control(shortest, no).with_minimal_gain_to_split(Some(threshold));
-    control.lent_layers = layers.to_vec();
+pub fn tree(case: &Tree) -> Grown {
+    let view = view(&case.stored.matrix);
+    let control = storing(&case.stored).with_minimal_gain_to_split(Some(case.threshold));
     let grid = GridSearch { gain: ChangeInMean::new(&view, &control) };
-    let mut segmentation = segmentation(&grid);
+    let mut segmentation = segmentation(&case.stored, &grid);
+    let stored = segmentation.segments.len();
     let mut tree = BinarySegmentationTree::new(&view);
     tree.grow(&mut segmentation);
     let result = BinarySegmentationResult::from_tree(tree);
     let mut nodes = vec![];
     list(&result, &mut nodes);
     let records = segmentation.segments.iter().map(record).collect();
-    Grown { nodes, cuts: result.split_points(), records }
+    Grown { stored, nodes, cuts: result.split_points(), records }
 }
 
 /// Lists a tree in preorder; places count from 0.
@@ -254,7 +257,7 @@ pub fn permuted(case: &Perm, l: usize) -> (usize, f64, bool) {
         .with_model_selection_n_permutations(case.p);
     let curves = case.deltas.iter().map(|curve| Array1::from_vec(curve.clone())).collect();
     LENT_CURVES.set(Some((curves, case.bases.clone())));
-    rand::lend(case.perms.chunks_exact(l).map(<[usize]>::to_vec));
+    rand::lend_permutations(case.perms.chunks_exact(l).map(<[usize]>::to_vec));
     let gain = ClassifierGain { classifier: Run { n: l, control, curve: vec![] } };
     let result = gain.model_selection(&OptimizerResult {
         start: 0,
@@ -297,8 +300,12 @@ pub fn own(case: &Case) -> Vec<(usize, bool)> {
             let set = || Control::default().with_model_selection_alpha(*alpha);
             vec![(3, catch_unwind(set).is_err())]
         }
-        Case::Seeded(case) => own_list(&case.forbidden),
-        Case::Tree(case) => own_list(&case.forbidden),
+        Case::Stored(stored)
+        | Case::Tree(Tree { stored, .. })
+        | Case::Wild(Wild(Tree { stored, .. })) => match odd(&stored.lists.draws) {
+            true => vec![],
+            false => own_list(&stored.forbidden),
+        },
         Case::Cand(Cand { segment })
         | Case::Search(Search { segment, .. })
         | Case::Pick(Pick { segment, .. })
@@ -313,8 +320,12 @@ pub fn own(case: &Case) -> Vec<(usize, bool)> {
     }
 }
 
+fn odd(list: &[usize]) -> bool {
+    list.len() % 2 == 1
+}
+
 fn own_list(forbidden: &Forbidden) -> Vec<(usize, bool)> {
-    if forbidden.as_ref().is_some_and(|list| list.len() % 2 == 1) {
+    if forbidden.as_deref().is_some_and(odd) {
         return vec![];
     }
     let pairs = pairs(forbidden);

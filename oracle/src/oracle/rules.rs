@@ -1,10 +1,11 @@
-//! The refusals: a second reading of document 01 ("Refusal numbers", "Sizes"), of the closed end in
-//! document 02 and of the decisions that go with them, made for the oracle alone. Nothing here is taken
-//! from the Rust, which has few refusals, nor from the code that the oracle judges. Rule by rule, in
-//! number order.
+//! The refusals: a second reading of document 01 ("Refusal numbers", "Sizes"), of the closed end and the
+//! draws in document 02 and of the decisions that go with them, made for the oracle alone. Nothing here
+//! is taken from the Rust, which has few refusals, nor from the code that the oracle judges. Rule by
+//! rule, in number order.
 
 use protocol::{
-    Cand, Case, Curve, Forbidden, Gain, Guesses, Knn, Matrix, Perm, Pick, Rel, Segment, Shortest,
+    Cand, Case, Curve, Forbidden, Gain, Guesses, Knn, Lists, Matrix, Perm, Pick, Rel, Segment,
+    Shortest, Stored, Wild,
 };
 
 const MOST_ROWS: usize = 4_096;
@@ -13,6 +14,7 @@ const MOST_COLUMNS: usize = 64;
 const MOST_M: usize = 4_096;
 const MOST_LAYERS: usize = 64;
 const SMALLEST_LAYER: f64 = 1.0 / 4096.0;
+const MOST_DRAWN: usize = 4_096;
 const MOST_PERMUTATIONS: usize = 999;
 const MOST_CURVES: usize = 3;
 const LONGEST_CURVE: usize = 4_096;
@@ -74,7 +76,8 @@ fn not_finite(values: &[f64]) -> bool {
     values.iter().any(|value| value.is_infinite() || value.is_nan())
 }
 
-// 5: "forbidden list of odd length, or a pair with a > b". A list that isn't given isn't looked at.
+// 5: "forbidden list of odd length, or a pair with a > b"; "also for an odd draw list" (document 02). A
+// forbidden list that isn't given isn't looked at.
 
 fn pairs(forbidden: &Forbidden) -> impl Iterator<Item = (usize, usize)> + '_ {
     let list = forbidden.as_deref().unwrap_or(&[]);
@@ -86,17 +89,27 @@ fn bad_list(forbidden: &Forbidden) -> bool {
     odd || pairs(forbidden).any(|(a, b)| a > b)
 }
 
-// 6: "more than 64 layers, or a layer value not in [1/4096, 1)".
+fn odd_draws(draws: &[usize]) -> bool {
+    draws.len() % 2 == 1
+}
+
+// 6: "more than 64 layers, or a layer value not in [1/4096, 1)"; "also for layers and draws both
+// non-empty or W above 4,096" (document 02), whether or not there are draws.
 
 fn bad_layers(layers: &[f64]) -> bool {
     layers.len() > MOST_LAYERS || layers.iter().any(|v| !(*v >= SMALLEST_LAYER && *v < 1.0))
+}
+
+fn both(lists: &Lists) -> bool {
+    !lists.layers.is_empty() && !lists.draws.is_empty()
 }
 
 // 7: "a lent working or output slice shorter than stated here": ../protocol/room.rs, from the stated
 // lengths.
 
 // 8: "start > stop or stop > n; a given split (gain, kNN) below start or above stop; for kNN also
-// start = stop".
+// start = stop"; "also for a draw with stop > n" (document 02), any of the list. A draw with start > stop
+// is passed over.
 
 fn outside(n: usize, start: usize, stop: usize) -> bool {
     start > stop || stop > n
@@ -104,6 +117,10 @@ fn outside(n: usize, start: usize, stop: usize) -> bool {
 
 fn split_outside(start: usize, stop: usize, split: usize) -> bool {
     split < start || split > stop
+}
+
+fn draw_outside(n: usize, draws: &[usize]) -> bool {
+    draws.chunks_exact(2).any(|draw| draw[1] > n)
 }
 
 // 9: "2*m >= stop-start"; permutation counts "for 2*m >= L". With a closed end "2*m > stop-start", and
@@ -203,12 +220,14 @@ fn measured(verdict: Verdict, cells: &Matrix, most: usize) -> Verdict {
     verdict.rule(1, matrix(cells, most)).rule(4, not_finite(&cells.cells))
 }
 
-/// 2, 5 and 6 of what segments are seeded by. A tree's threshold is judged beside them, by 3.
-fn seeded(verdict: Verdict, shortest: Shortest, forbidden: &Forbidden, layers: &[f64]) -> Verdict {
-    verdict
-        .rule(2, minimal_length(shortest))
-        .rule(5, bad_list(forbidden))
-        .rule(6, bad_layers(layers))
+/// A run, and what is stored before a tree is grown. A tree's threshold is judged beside it, by 3.
+fn stored(verdict: Verdict, case: &Stored) -> Verdict {
+    let Stored { matrix, shortest, forbidden, lists } = case;
+    measured(verdict, matrix, MOST_ROWS)
+        .rule(2, minimal_length(*shortest))
+        .rule(5, bad_list(forbidden) || odd_draws(&lists.draws))
+        .rule(6, bad_layers(&lists.layers) || both(lists) || lists.w > MOST_DRAWN)
+        .rule(8, draw_outside(matrix.n, &lists.draws))
 }
 
 fn picked(verdict: Verdict, case: &Pick) -> Verdict {
@@ -232,14 +251,9 @@ pub fn judge(case: &Case, short: bool) -> Verdict {
         Case::Gain(Gain { matrix, start, stop, split }) => measured(verdict, matrix, MOST_ROWS)
             .rule(8, outside(matrix.n, *start, *stop) || split_outside(*start, *stop, *split)),
         Case::Search(case) => searched(measured(verdict, &case.matrix, MOST_ROWS), &case.segment),
-        Case::Seeded(case) => {
-            let verdict = measured(verdict, &case.matrix, MOST_ROWS);
-            seeded(verdict, case.shortest, &case.forbidden, &case.layers)
-        }
-        Case::Tree(case) => {
-            let verdict = measured(verdict, &case.matrix, MOST_ROWS);
-            seeded(verdict, case.shortest, &case.forbidden, &case.layers)
-                .rule(3, threshold(case.threshold))
+        Case::Stored(case) => stored(verdict, case),
+        Case::Tree(case) | Case::Wild(Wild(case)) => {
+            stored(verdict, &case.stored).rule(3, threshold(case.threshold))
         }
         Case::Order(case) => measured(verdict, &case.matrix, MOST_NEIGHBOUR_ROWS),
         Case::Knn(Knn { matrix, start, stop, split }) => {

@@ -9,6 +9,8 @@ pub struct Capacities {
     pub(crate) permutations: usize,
     pub(crate) forbidden: usize,
     pub(crate) layers: usize,
+    /// Numbers, two a draw.
+    pub(crate) draws: usize,
     /// Of a curve, candidates and predictions.
     pub(crate) curve: usize,
     /// Of records, nodes and cuts.
@@ -25,18 +27,20 @@ impl Capacities {
         permutations: 262_144,
         forbidden: 2_048,
         layers: 100,
+        draws: 8_192,
         curve: 4_097,
         records: 262_144,
         rows: 1_024,
     };
 
     /// Room for every size of document 01, with a closed end too: 4,097*64 sums, 999*4,096 permutation
-    /// entries, 64*8,191 stored records and 8,191 more. A forbidden list has no size there.
+    /// entries, 64*8,191 stored records and 8,191 more. Forbidden lists and draw lists have no size.
     pub const WIDE: Capacities = Capacities {
         line: 128_000_000,
         sums: 262_208,
         permutations: 4_096_000,
         forbidden: 100_000,
+        draws: 200_000,
         records: 600_000,
         ..Capacities::PAGE
     };

@@ -1,6 +1,6 @@
 //! The fields of a line, parted by single blanks, read one after another.
 
-use crate::{Capacities, Forbidden, Matrix, Segment, Shortest};
+use crate::{Capacities, Forbidden, Lists, Matrix, Segment, Shortest};
 use std::mem::take;
 use std::slice::Split;
 
@@ -79,9 +79,16 @@ impl<'a> Fields<'a> {
         self.entries(count, value)
     }
 
-    /// LAYERS
-    pub fn layers(&mut self) -> Option<Vec<f64>> {
-        self.list(self.capacities.layers, value)
+    /// LAYERS, with no draws and W = 0.
+    pub fn layers(&mut self) -> Option<Lists> {
+        Some(Lists { layers: self.list(self.capacities.layers, value)?, ..Lists::default() })
+    }
+
+    /// LAYERS DRAWS W
+    pub fn lists(&mut self) -> Option<Lists> {
+        let layers = self.layers()?;
+        let draws = self.list(self.capacities.draws, number)?;
+        Some(Lists { draws, w: self.number()?, ..layers })
     }
 
     /// L0, L1, DELTAS or CURVE

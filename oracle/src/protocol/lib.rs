@@ -21,9 +21,9 @@ pub use lengths::{Rel, F32};
 pub use mean::{Cand, Forbidden, Gain, Matrix, Search, Segment, Shortest};
 pub use neighbours::{Knn, Order};
 pub use room::Slice;
-pub use segments::{Record, Seeded};
+pub use segments::{Lists, Record, Stored};
 pub use text::{bits, same};
-pub use tree::{Grown, Node, Tree};
+pub use tree::{Grown, Node, Tree, Wild};
 pub use two_step::{Guesses, Pick};
 
 use room::Short;
@@ -69,8 +69,9 @@ kinds! {
     b"cand" Cand,
     b"gain" Gain,
     b"search" Search,
-    b"seeded" Seeded,
+    b"stored" Stored,
     b"tree" Tree,
+    b"wild" Wild,
     b"order" Order,
     b"knn" Knn,
     b"curve" Curve,
@@ -111,7 +112,7 @@ impl Line {
         self.slices[number - 1].lent(short.map(|short| short.less))
     }
 
-    /// Whether a slice is lent shorter than document 01 asks.
+    /// Whether a slice is lent shorter than is asked.
     pub fn lends_too_little(&self) -> bool {
         let mut numbered = self.slices.iter().zip(1..);
         numbered.any(|(slice, number)| slice.asks_more_than(self.lent(number)))

@@ -1,7 +1,7 @@
-//! Lent memory: what document 01 asks of each slice, with a closed end document 02, and what
+//! Lent memory: what document 01 asks of each slice, with a closed end or draws document 02, and what
 //! docs/REPLAY.md lends. All lengths are exact.
 
-use crate::{Capacities, Matrix, Segment, Shortest};
+use crate::{Capacities, Lists, Matrix, Segment, Shortest};
 
 /// `short I K`.
 #[derive(Clone, Copy)]
@@ -32,16 +32,19 @@ fn most_nodes(n: usize, shortest: Shortest) -> Option<u128> {
     Some((2 * floor - 1).max(1) as u128)
 }
 
-/// "T the layers' counts summed", "count = 2*ceil(f32(1/v)) - 1".
-fn most_stored(layers: &[f64]) -> Option<u128> {
+/// "T the layers' counts summed", "count = 2*ceil(f32(1/v)) - 1"; with draws "T is W".
+fn most_stored(lists: &Lists) -> Option<u128> {
     let count = |v: &f64| {
         let inside = *v >= 1.0 / 4096.0 && *v < 1.0;
         inside.then(|| 2 * ((1.0 / v) as f32).ceil() as u128 - 1)
     };
-    layers.iter().map(count).sum()
+    match lists.draws.is_empty() {
+        true => lists.layers.iter().map(count).sum(),
+        false => Some(lists.w as u128),
+    }
 }
 
-/// What document 01 asks of each slice, under the capacity of its array.
+/// What is asked of each slice, under the capacity of its array.
 impl Capacities {
     /// What is asked by the ends of a segment, 0 where that is negative.
     fn by_ends(&self, asked: i128) -> Slice {
@@ -74,15 +77,15 @@ impl Capacities {
         [slice(Some(n * n), most * most), slice(Some(n), most)]
     }
 
-    /// "T the layers' counts summed": a record for each segment.
-    pub(crate) fn stored(&self, layers: &[f64]) -> Slice {
-        slice(most_stored(layers), self.records)
+    /// T records.
+    pub(crate) fn stored(&self, lists: &Lists) -> Slice {
+        slice(most_stored(lists), self.records)
     }
 
     /// "B nodes, T+B records, (B-1)/2 cuts", in the page's order: records, nodes, cuts.
-    pub(crate) fn grown(&self, n: usize, shortest: Shortest, layers: &[f64]) -> [Slice; 3] {
+    pub(crate) fn grown(&self, n: usize, shortest: Shortest, lists: &Lists) -> [Slice; 3] {
         let nodes = most_nodes(n, shortest);
-        let records = nodes.and_then(|nodes| Some(most_stored(layers)? + nodes));
+        let records = nodes.and_then(|nodes| Some(most_stored(lists)? + nodes));
         let cuts = nodes.map(|nodes| (nodes - 1) / 2);
         [records, nodes, cuts].map(|asked| slice(asked, self.records))
     }

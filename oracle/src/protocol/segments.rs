@@ -1,27 +1,47 @@
-//! `seeded`, and the records that it and `tree` tell.
+//! `stored`, and the records that it, `tree` and `wild` tell.
 
 use crate::text::{all, bits};
 use crate::{Capacities, Fields, Forbidden, Kind, Matrix, Shortest, Slice};
 
-pub struct Seeded {
+/// What is searched before a tree is grown: the segments of layers, or those drawn, flat pairs, until W
+/// records stand.
+#[derive(Default)]
+pub struct Lists {
+    pub layers: Vec<f64>,
+    pub draws: Vec<usize>,
+    pub w: usize,
+}
+
+pub struct Stored {
     pub matrix: Matrix,
     pub shortest: Shortest,
     pub forbidden: Forbidden,
-    pub layers: Vec<f64>,
+    pub lists: Lists,
 }
 
-impl Kind for Seeded {
-    /// N D M F LAYERS CELLS
+impl Stored {
+    /// F, the lists that the kind takes, CELLS.
+    pub(crate) fn after_m<'a>(
+        fields: &mut Fields<'a>,
+        size: (usize, usize),
+        shortest: Shortest,
+        lists: fn(&mut Fields<'a>) -> Option<Lists>,
+    ) -> Option<Self> {
+        let (forbidden, lists) = (fields.forbidden()?, lists(fields)?);
+        Some(Stored { matrix: fields.matrix(size)?, shortest, forbidden, lists })
+    }
+}
+
+impl Kind for Stored {
+    /// N D M F LAYERS DRAWS W CELLS, without the prefix `closed`.
     fn read(fields: &mut Fields) -> Option<Self> {
-        let size = fields.size()?;
-        let shortest = fields.shortest()?;
-        let (forbidden, layers) = (fields.forbidden()?, fields.layers()?);
-        Some(Seeded { matrix: fields.matrix(size)?, shortest, forbidden, layers })
+        let (size, m) = (fields.size()?, fields.number()?);
+        Stored::after_m(fields, size, Shortest { m, closed: false }, Fields::lists)
     }
 
     /// Sums, records.
     fn lends(&self, capacities: &Capacities) -> Vec<Slice> {
-        vec![capacities.sums(&self.matrix), capacities.stored(&self.layers)]
+        vec![capacities.sums(&self.matrix), capacities.stored(&self.lists)]
     }
 }
 
@@ -33,7 +53,7 @@ pub struct Record {
     pub gain: f64,
 }
 
-impl Seeded {
+impl Stored {
     pub fn answer(records: &[Record]) -> String {
         counted(records)
     }

@@ -1,6 +1,6 @@
 //! Memory to lend, filled with a pattern that shows where it was written.
 
-use haspgarnet_changeforest::{owned, Matrix, Node, Settings};
+use haspgarnet_changeforest::{owned, Matrix, Node, Segments, Settings};
 
 /// None of them is one byte repeated, so that an entry that is shifted shows.
 const VALUE: f64 = -3.25e-200;
@@ -53,7 +53,7 @@ pub fn places(length: usize) -> Lent<u32> {
 pub fn nodes(length: usize) -> Lent<Node> {
     let readings = Matrix { cells: &[0.0, 0.0, 8.0], rows: 3, columns: 1 };
     let settings = Settings { m: 1, threshold: 0.0, ..Settings::default() };
-    let grown = owned::tree(readings, &settings).map(|tree| tree.nodes);
+    let grown = owned::tree(readings, &settings, Segments::None).map(|tree| tree.nodes);
     let mut node = grown.unwrap_or_default().first().copied().unwrap_or_default();
     (node.start, node.stop, node.left, node.right) = (NUMBER, NUMBER - 1, NUMBER - 2, NUMBER - 3);
     Lent::filled(length, node)

@@ -3,8 +3,8 @@ use crate::mean::{as_gain_leaves, matrix, shortest, sums_of};
 use crate::outcome::agree;
 use crate::{Call, Outcome};
 use haspgarnet_changeforest::lent::SegmentsRoom;
-use haspgarnet_changeforest::{lent, owned, Settings};
-use protocol::{Line, Record, Seeded};
+use haspgarnet_changeforest::{lent, owned, Lists, Refusal, Segments, Settings};
+use protocol::{Line, Record, Stored};
 
 /// Room for records: a record is three rows and a gain.
 pub struct Records {
@@ -37,30 +37,53 @@ pub fn record(record: &haspgarnet_changeforest::Record) -> Record {
     Record { start: record.start, stop: record.stop, split: record.split, gain: record.gain }
 }
 
-impl Call for Seeded {
+pub fn settings(case: &Stored) -> Settings<'_> {
+    Settings { forbidden: case.forbidden.as_deref(), ..shortest(case.shortest) }
+}
+
+pub fn lists(case: &Stored) -> Lists<'_> {
+    let protocol::Lists { layers, draws, w } = &case.lists;
+    Lists { layers, draws, most: *w }
+}
+
+/// The lists as calls with room of their own take them: never both. W goes with draws; beside layers it
+/// can't be given, and changes nothing up to its size.
+pub fn segments(case: &Stored) -> Option<Segments<'_>> {
+    const MOST: usize = 4_096;
+    match lists(case) {
+        Lists { layers: [], draws: [], most: 0 } => Some(Segments::None),
+        Lists { layers: [], draws, most } => Some(Segments::Draws { pairs: draws, most }),
+        Lists { layers, draws: [], most: 0..=MOST } => Some(Segments::Layers(layers)),
+        _ => None,
+    }
+}
+
+/// What the lent call that stores alone answers, and whether all else is as it was. The line's first two
+/// slices are lent to it: sums and records.
+pub fn stored(case: &Stored, line: &Line) -> (Result<Vec<Record>, Refusal>, bool) {
+    let readings = matrix(&case.matrix);
+    let (mut sums, mut records) = (values(line.lent(1)), Records::of(line.lent(2)));
+    let room = SegmentsRoom {
+        sums: sums.slice(),
+        rows: records.rows.slice(),
+        gains: records.gains.slice(),
+    };
+    let count = lent::stored_segments(readings, &settings(case), lists(case), room);
+    let told = count.map_or(0, |_| sums_of(&readings));
+    let left = count.is_err() || as_gain_leaves(readings, sums.told(told));
+    let kept = left && sums.kept_past(told) && records.kept_past(count.unwrap_or(0));
+    (count.map(|count| records.told(count)), kept)
+}
+
+impl Call for Stored {
     fn call(&self, line: &Line) -> Outcome {
-        let readings = matrix(&self.matrix);
-        let settings = Settings {
-            forbidden: self.forbidden.as_deref(),
-            layers: &self.layers,
-            ..shortest(self.shortest)
-        };
-        let (mut sums, mut records) = (values(line.lent(1)), Records::of(line.lent(2)));
-        let room = SegmentsRoom {
-            sums: sums.slice(),
-            rows: records.rows.slice(),
-            gains: records.gains.slice(),
-        };
-        let stored = lent::seeded_segments(readings, &settings, room);
-        let told = stored.map_or(0, |_| sums_of(&readings));
-        let left = stored.is_err() || as_gain_leaves(readings, sums.told(told));
-        let answer = stored.map(|count| Seeded::answer(&records.told(count)));
-        let owned = owned::seeded_segments(readings, &settings);
-        let owned = owned.map(|list| Seeded::answer(&list.iter().map(record).collect::<Vec<_>>()));
-        Outcome {
-            kept: left && sums.kept_past(told) && records.kept_past(stored.unwrap_or(0)),
-            agrees: agree(answer.clone(), owned),
-            told: answer,
-        }
+        let (stored, kept) = stored(self, line);
+        let told = stored.map(|records| Stored::answer(&records));
+        let agrees = segments(self).is_none_or(|segments| {
+            let owned = owned::stored_segments(matrix(&self.matrix), &settings(self), segments);
+            let records = |list: Vec<_>| list.iter().map(record).collect::<Vec<_>>();
+            agree(told.clone(), owned.map(|list| Stored::answer(&records(list))))
+        });
+        Outcome { kept, agrees, told }
     }
 }

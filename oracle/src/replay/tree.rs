@@ -1,11 +1,11 @@
 use crate::lent::{nodes, numbers, values, Lent};
-use crate::mean::{as_gain_leaves, matrix, shortest, sums_of};
+use crate::mean::{as_gain_leaves, matrix, sums_of};
 use crate::outcome::agree;
-use crate::segments::{record, Records};
+use crate::segments::{lists, record, segments, settings, stored, Records};
 use crate::{Call, Outcome};
 use haspgarnet_changeforest::lent::TreeRoom;
-use haspgarnet_changeforest::{lent, owned, Counts, Node, Settings};
-use protocol::{Grown, Line, Tree};
+use haspgarnet_changeforest::{lent, owned, Counts, Node, Refusal, Settings};
+use protocol::{Grown, Line, Record, Stored, Tree, Wild};
 
 struct Room {
     sums: Lent<f64>,
@@ -43,6 +43,7 @@ impl Room {
 
     fn grown(&self, counts: Counts) -> Grown {
         Grown {
+            stored: counts.stored,
             nodes: self.nodes.told(counts.nodes).iter().map(node).collect(),
             cuts: self.cuts.told(counts.cuts).to_vec(),
             records: self.records.told(counts.records),
@@ -62,34 +63,65 @@ fn node(node: &Node) -> protocol::Node {
 
 fn owned_grown(tree: haspgarnet_changeforest::Tree) -> Grown {
     Grown {
+        stored: tree.stored,
         nodes: tree.nodes.iter().map(node).collect(),
         cuts: tree.cuts,
         records: tree.records.iter().map(record).collect(),
     }
 }
 
+/// Whether the call that stores alone answers what the tree begins with. It takes no threshold, and has
+/// room enough where nodes or cuts alone are short: where the tree is refused by 3 or 7 it answers, or is
+/// refused by no lower number.
+fn begins_with(grown: &Result<Grown, Refusal>, stored: Result<Vec<Record>, Refusal>) -> bool {
+    match (grown, stored) {
+        (Ok(grown), Ok(stored)) => {
+            let first = grown.records.get(..grown.stored);
+            first.is_some_and(|first| Stored::answer(first) == Stored::answer(&stored))
+        }
+        (Err(why), stored) if matches!(why.number(), 3 | 7) => {
+            stored.err().is_none_or(|other| other.number() >= why.number())
+        }
+        (grown, stored) => grown.as_ref().err() == stored.as_ref().err(),
+    }
+}
+
+/// Grows the tree of a case, and tells it in the words of its kind.
+fn grown(case: &Tree, line: &Line, words: fn(&Grown) -> String) -> Outcome {
+    let readings = matrix(&case.stored.matrix);
+    let settings = Settings { threshold: case.threshold, ..settings(&case.stored) };
+    let mut room = Room::of(line);
+    let counts = lent::tree(readings, &settings, lists(&case.stored), room.lend());
+    let kept = match counts {
+        Err(_) => room.kept_past(0, 0, 0, 0),
+        Ok(told) => {
+            let sums = sums_of(&readings);
+            as_gain_leaves(readings, room.sums.told(sums))
+                && room.kept_past(sums, told.records, told.nodes, told.cuts)
+        }
+    };
+    let grown = counts.map(|counts| room.grown(counts));
+    let agrees = segments(&case.stored).is_none_or(|segments| {
+        let lent = grown.as_ref().map(Wild::answer).map_err(|why| *why);
+        let owned = owned::tree(readings, &settings, segments);
+        agree(lent, owned.map(|tree| Wild::answer(&owned_grown(tree))))
+    });
+    let (stored, stored_kept) = stored(&case.stored, line);
+    Outcome {
+        kept: kept && stored_kept,
+        agrees: agrees && begins_with(&grown, stored),
+        told: grown.map(|grown| words(&grown)),
+    }
+}
+
 impl Call for Tree {
     fn call(&self, line: &Line) -> Outcome {
-        let readings = matrix(&self.matrix);
-        let settings = Settings {
-            threshold: self.threshold,
-            forbidden: self.forbidden.as_deref(),
-            layers: &self.layers,
-            ..shortest(self.shortest)
-        };
-        let mut room = Room::of(line);
-        let counts = lent::tree(readings, &settings, room.lend());
-        let kept = match counts {
-            Err(_) => room.kept_past(0, 0, 0, 0),
-            Ok(told) => {
-                let sums = sums_of(&readings);
-                as_gain_leaves(readings, room.sums.told(sums))
-                    && room.kept_past(sums, told.records, told.nodes, told.cuts)
-            }
-        };
-        let told = counts.map(|counts| Tree::answer(&room.grown(counts)));
-        let owned = owned::tree(readings, &settings);
-        let owned = owned.map(|tree| Tree::answer(&owned_grown(tree)));
-        Outcome { kept, agrees: agree(told.clone(), owned), told }
+        grown(self, line, Tree::answer)
+    }
+}
+
+impl Call for Wild {
+    fn call(&self, line: &Line) -> Outcome {
+        grown(&self.0, line, Wild::answer)
     }
 }
