@@ -29,7 +29,7 @@ use Rattle.sheet_text.specs.Lines.{sheetOf}
 use Rattle.sheet_text.proofs.Lookup.{lines-are}
 use Rattle.answers.specs.Answered.{matrixHeld, settingsHeld, runHeld, lent, treeNumber, Grew, givenText}
 use Rattle.entry_tree.specs.Answers.{grownOf}
-use Rattle.segmentation.specs.Seeds.{Slices as RecordSlices}
+use Rattle.segmentation.specs.Segments.{Slices as RecordSlices}
 use Rattle.entry_tree.specs.Left.{PointsLeft}
 use Rattle.entry_tree.specs.declared.Grown.{Grown}
 use Rattle.entry_tree.specs.declared.Grown.the-variants as grown

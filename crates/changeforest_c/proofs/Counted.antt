@@ -6,7 +6,7 @@ use Prim.Native.Nat.{ℕ, zero, suc, _-_, _/_, _≤_}
 use native.Mathlib.Omega.{arith}
 use borrow.Author.Tests.{lt-ltb, ltb-false}
 use lib.Dec.{T, ltb}
-use lib.ListN.{length, take, drop, set}
+use lib.ListN.{length, take, drop}
 use lib.Seq.{length-take-le, take-length, drop-length}
 use Rattle.scope.specs.Lists.{holding}
 use Rattle.scope.specs.Asked.{Matrix, Settings}
@@ -14,15 +14,13 @@ use Rattle.scope.specs.Refusals.{Test, test, firstOf, Answer, refused, given, u
 use Rattle.scope.specs.Draws.{no8-draws}
 use Rattle.scope.specs.Tree.{Run, treeOf, recordsOf, Node, nodes, sheet, mostNodes}
 use Rattle.scope.specs.Calls.{sumsOf, TreeAsked, treeRoomTests, treeTests, treeRefusal, treeCall, Counts, countsOf, runOf, countedRefusal, countedCall, countsTold}
-use Rattle.scope.proofs.Never.{never}
 use Rattle.control.proofs.Clean.{Numbered}
 use Rattle.stored.specs.Flat.{recordRoom}
-use Rattle.segmentation.specs.Seeds.{Held}
+use Rattle.segmentation.specs.Segments.{Held}
 use Rattle.node.specs.Nodes.{toNode}
 use Rattle.demand.specs.Demand.{Demand}
 use Rattle.prepared.specs.Answers.{treeAsked}
 use Rattle.entry_tree.specs.declared.Grown.{Grown}
-use Rattle.entry_tree.specs.declared.Grown.the-variants.{Counted}
 use Rattle.entry_tree.specs.Answers.{grownOf}
 use Rattle.entry_tree.specs.Left.{Slices, recordSlices, TreeLeft}
 use Rattle.told.specs.Told.{numberOf, countedRoom, fourIn, grownNumber, grownCounts, GrownTold}

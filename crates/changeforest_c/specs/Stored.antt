@@ -8,7 +8,7 @@ use lib.ListN.{length}
 use Rattle.scope.specs.Lists.{holding}
 use Rattle.scope.specs.Asked.{Matrix, Shortest, Source, Settings}
 use Rattle.scope.specs.Calls.{lengthAnswer, CandidatesAsked, candidatesCall, GainAsked, gainCall, SearchAsked, searchCall, TreeTold, runOf, countedCall, countsTold, PickAsked, pickAnswer, GuessesAsked, guessesAnswer, PermutationAsked, permutationAnswer}
-use Rattle.segmentation.specs.Seeds.{Slices as RecordSlices, Held}
+use Rattle.segmentation.specs.Segments.{Slices as RecordSlices, Held}
 use Rattle.node.specs.Nodes.{toNode}
 use Rattle.demand.specs.Demand.{Demand}
 use Rattle.prepared.specs.Answers.{treeAsked}

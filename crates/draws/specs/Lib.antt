@@ -1,1 +1,2 @@
--- Draws are named by the definitions of scope alone.
+-- What is refused of the lists that stored segments come from.
+pub mod Source

@@ -4,12 +4,12 @@ use layers::Segment;
 use rows::Position;
 ghost use mathlib.Core.Path.{_≡_};
 ghost use mathlib.Core.Bool.{false};
-ghost use mathlib.Core.List.{[], _∷_};
 ghost use Prim.Native.Nat.{_+_, _<_};
 ghost use lib.ListN.{length, getD};
-ghost use Rattle.scope.specs.Refusals.{firstOf, wrongLayers, no6};
-ghost use Rattle.scope.specs.Draws.{isSearched, isOdd, bothGiven, isPast, anyPast, mostStored, no5-draws, no6-both, no6-most};
+ghost use Rattle.scope.specs.Refusals.{firstOf, wrongLayers};
+ghost use Rattle.scope.specs.Draws.{isSearched, isOdd, bothGiven, isPast, anyPast, mostStored};
 ghost use Rattle.layers.specs.Layer.{segmentOf};
+ghost use Rattle.draws.specs.Source.{sourceTests};
 
 // W is at most this.
 pub const MOST_WILD: usize = 4096;
@@ -69,7 +69,7 @@ fn both_given(layers: &[f64], draws: &[usize]) -> bool
 
 // 5 and 6 of the lists that stored segments come from, and W: the number that applies, or 0.
 pub fn source_refusal(layers: &[f64], draws: &[usize], w: usize) -> u32
-    ensures { λ r. ⌜ r ≡ firstOf (no5-draws (record { layers = now (layers .entry); draws = now (draws .entry); W = w }) ∷ no6 (now (layers .entry)) ∷ no6-both (record { layers = now (layers .entry); draws = now (draws .entry); W = w }) ∷ no6-most (record { layers = now (layers .entry); draws = now (draws .entry); W = w }) ∷ []) ⌝ }
+    ensures { λ r. ⌜ r ≡ firstOf (sourceTests (record { layers = now (layers .entry); draws = now (draws .entry); W = w })) ⌝ }
 {
     if is_odd(draws) {
         return 5;

@@ -4,7 +4,7 @@ use mathlib.Core.List.{List}
 use Prim.Native.Nat.{ℕ}
 use Rattle.scope.specs.Asked.{Matrix, Shortest, Source}
 use Rattle.scope.specs.Calls.{StoredTold, storedCall}
-use Rattle.segmentation.specs.Seeds.{Slices, storedAsked, Held}
+use Rattle.segmentation.specs.Segments.{Slices, storedAsked, Held}
 use Rattle.entry_mean.specs.declared.Count.{Count}
 use Rattle.entry_mean.specs.Answers.{countOf}
 

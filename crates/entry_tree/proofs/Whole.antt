@@ -3,7 +3,6 @@ use mathlib.Core.Path.{_≡_, refl, sym, _∙_, ap}
 use mathlib.Core.List.{List, _++_, map}
 use Prim.Native.Nat.{ℕ, zero, suc, _≤_}
 use native.Mathlib.Omega.{arith}
-use lib.Ieee.{Float}
 use lib.ListN.{length, take, drop, length-append}
 use lib.Seq.{drop-append-add, drop-drop}
 use Rattle.scope.specs.Lists.{holding}
@@ -23,7 +22,7 @@ use Rattle.control.proofs.Follows.{answer-refused, held-refused, answer-given, 
 use Rattle.change_in_mean.proofs.Room.{sums-are, sums-part}
 use Rattle.stored.specs.Flat.{flatRows, gainsOf}
 use Rattle.stored.proofs.Flat.{rows-append, gains-append, records-told}
-use Rattle.segmentation.specs.Seeds.{Slices as RecordSlices}
+use Rattle.segmentation.specs.Segments.{Slices as RecordSlices}
 use Rattle.scope.proofs.Draws.{records-few}
 use Rattle.binary_segmentation.specs.declared.tree.Asked.{Asked}
 use Rattle.binary_segmentation.specs.declared.tree.Counts.{Counts}

@@ -8,7 +8,7 @@ use Rattle.scope.specs.Lists.{holding}
 use Rattle.scope.specs.Asked.{Matrix, Settings}
 use Rattle.scope.specs.Calls.{TreeTold, runOf, treeCall}
 use Rattle.demand.specs.Demand.{Demand}
-use Rattle.segmentation.specs.Seeds.{Slices as RecordSlices, Held}
+use Rattle.segmentation.specs.Segments.{Slices as RecordSlices, Held}
 use Rattle.node.specs.declared.Node.{Node}
 use Rattle.node.specs.Nodes.{toNode}
 use Rattle.prepared.specs.Answers.{treeAsked}

@@ -9,7 +9,7 @@ use Rattle.scope.specs.Grid.{Record}
 use Rattle.scope.specs.Tree.{storedRecords}
 use Rattle.scope.specs.Calls.{sumsOf, sumsRoom, TreeAsked, runOf, treeRefusal}
 use Rattle.stored.specs.Flat.{recordRoom}
-use Rattle.segmentation.specs.Seeds.{Slices, Held}
+use Rattle.segmentation.specs.Segments.{Slices, Held}
 use Rattle.prepared.specs.declared.Prepared.{Prepared}
 use Rattle.prepared.specs.declared.Prepared.the-variants as prepared
 

@@ -1,22 +1,20 @@
--- Draws: what is stored of them, pair by pair, and in a reader's words; how many segments a run stores. Assumes nothing.
-use mathlib.Core.Path.{_≡_, refl, sym, _∙_, ap}
-use mathlib.Core.Bool.{Bool, true, false, cond, _&&_}
-use mathlib.Core.List.{List, [], _∷_, _++_, List·Memᴰ·head, List·Memᴰ·tail, List·Memᴰ·not-nil, List·Memᴰ·cases-cons}
+-- Draws: what is stored of them, in a reader's words; how many segments a run stores. Assumes nothing.
+use mathlib.Core.Path.{_≡_, refl, ap}
+use mathlib.Core.Bool.{Bool, true, _&&_}
+use mathlib.Core.List.{List, [], _∷_, List·Memᴰ·head, List·Memᴰ·tail, List·Memᴰ·not-nil, List·Memᴰ·cases-cons}
 use mathlib.Core.Logic.{⊎-elim}
 use mathlib.Core.Option.{Option, none, some}
-use Prim.Native.Nat.{ℕ, zero, suc, _-_, _≤_, _<_}
-use native.Mathlib.Numerals.{unary-clauses}
+use Prim.Native.Nat.{ℕ, zero, suc, _≤_, _<_}
 use native.Mathlib.Omega.{arith}
 use borrow.Author.Tests.{lt-ltb, ltb-true}
-use lib.Dec.{ltb}
 use lib.ListN.{length, take, length-take}
-use lib.Seq.{take-all, take-nil}
-use Rattle.scope.specs.Lists.{_∈_, keep, select}
+use lib.Seq.{take-all}
+use Rattle.scope.specs.Lists.{_∈_, select}
 use Rattle.scope.specs.Asked.{Source}
 use Rattle.scope.specs.Allowed.{Pair, here, later}
 use Rattle.scope.specs.Grid.{Record}
-use Rattle.scope.specs.Layers.{Segment, one, stored, seeded}
-use Rattle.scope.specs.Draws.{pairsOf, isSearched, isFound, drawRecord, drawn, storedSegments, mostStored, StoredDraws}
+use Rattle.scope.specs.Layers.{Segment, stored}
+use Rattle.scope.specs.Draws.{pairsOf, isSearched, isFound, drawn, storedSegments, mostStored, StoredDraws}
 use Rattle.scope.proofs.Lists.{select-are, select-all}
 use Rattle.scope.proofs.Members.{first-of, second-of}
 use Rattle.scope.proofs.Stored.{stored-few, length-seeded}
@@ -38,29 +36,6 @@ module _ (find : ℕ → ℕ → Option Record) where
   -- the draws that are stored as long as W are not
   abbrev isStored : Segment → Bool
   isStored s = isSearched s && isFound (find (s .start) (s .stop))
-
-  -- ---- pair by pair
-  pub drawn-next : (a b : ℕ) (ds : List ℕ) (W : ℕ) → 0 < W
-      → stored find (drawn find (a ∷ b ∷ ds) W) ≡ one (drawRecord find (record { start = a; stop = b })) ++ stored find (drawn find ds (W - length (one (drawRecord find (record { start = a; stop = b })))))
-  unfolding drawn pairsOf select stored
-  drawn-next a b ds zero h = absurd (omega arith)
-  drawn-next a b ds (suc W) h = go (ltb a b) (find a b) refl
-    where
-      go : (t : Bool) (o : Option Record) → find a b ≡ o
-          → stored find (take (suc W) (keep (t && isFound o) (record { start = a; stop = b }) (select isStored (pairsOf ds)))) ≡ one (cond t o none) ++ stored find (take (suc W - length (one (cond t o none))) (select isStored (pairsOf ds)))
-      go false o e = simp unary-clauses
-      go true none e = simp unary-clauses
-      go true (some r) e = simp (unary-clauses, e)
-
-  pub drawn-none : (draws : List ℕ) (W : ℕ) → length draws ≤ 1 → drawn find draws W ≡ []
-  unfolding drawn pairsOf select
-  drawn-none [] W h = take-nil W
-  drawn-none (a ∷ []) W h = take-nil W
-  drawn-none (a ∷ b ∷ ds) W h = absurd (omega arith)
-
-  pub drawn-full : (draws : List ℕ) → drawn find draws 0 ≡ []
-  unfolding drawn
-  drawn-full draws = refl
 
   -- ---- in a reader's words
   take-in : {A : Type 0} (k : ℕ) (l : List A) (x : A) → x ∈ take k l → x ∈ l

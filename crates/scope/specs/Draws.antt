@@ -1,6 +1,6 @@
 -- Draws: "Wild segments". A run's stored segments come from layers or from a lent list of draws.
 use mathlib.Core.Path.{_≡_}
-use mathlib.Core.Bool.{Bool, true, false, cond, not, _&&_}
+use mathlib.Core.Bool.{Bool, true, false, not, _&&_}
 use mathlib.Core.List.{List, [], _∷_}
 use mathlib.Core.Option.{Option, none, some}
 use Prim.Native.Nat.{ℕ, _%_, _≤_, _<_}
@@ -28,10 +28,6 @@ isSearched s = ltb (s .start) (s .stop)
 abbrev pub isFound : Option Record → Bool
 isFound none = false
 isFound (some r) = true
-
--- so a draw that is reached leaves a record unless it is passed over or its search refuses
-abbrev pub drawRecord : (ℕ → ℕ → Option Record) → Segment → Option Record
-drawRecord find s = cond (isSearched s) (find (s .start) (s .stop)) none
 
 -- "the others are searched in order, and those that answer are stored, until W records stand or the list ends": the first W of the pairs with
 -- start < stop whose search answers

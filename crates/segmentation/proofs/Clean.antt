@@ -1,12 +1,12 @@
 -- What holds where a call for the stored segments is not refused. Assumes nothing.
-use mathlib.Core.Path.{_≡_, refl, sym, _∙_}
-use mathlib.Core.Bool.{Bool, true, false, not}
+use mathlib.Core.Path.{_≡_}
+use mathlib.Core.Bool.{false, not}
 use mathlib.Core.List.{List}
 use Prim.Native.Nat.{ℕ, _+_, _*_, _≤_}
 use native.Mathlib.Nat.{mul-le-mul-right}
 use native.Mathlib.Omega.{arith}
 use borrow.Author.Tests.{ltb-false, not-false, not-true}
-use Rattle.scope.specs.Lists.{_∈_, every}
+use Rattle.scope.specs.Lists.{_∈_}
 use Rattle.scope.specs.Refusals.{wrongLayers}
 use Rattle.scope.specs.Layers.{Segment}
 use Rattle.scope.specs.Draws.{pairsOf, isPast, anyPast, mostStored}
@@ -15,7 +15,7 @@ use Rattle.change_in_mean.proofs.Room.{SumsClean, sums-clean}
 use Rattle.scope.proofs.Candidates.{not-outside}
 use Rattle.scope.proofs.Members.{every-of}
 use Rattle.control.proofs.Clean.{passed}
-use Rattle.segmentation.specs.Seeds.{Within}
+use Rattle.segmentation.specs.Segments.{Within}
 
 pub record StoredClean (a : StoredAsked) : Type 0 where
   pub sums : SumsClean (a .matrix) (a .sums)

@@ -1,5 +1,5 @@
 -- The loop over the draws: what it has stored, and what is left to store of the rest of the list. Assumes nothing.
-use mathlib.Core.Path.{_≡_, refl, sym, _∙_, ap}
+use mathlib.Core.Path.{_≡_, refl, sym, _∙_}
 use mathlib.Core.List.{List, [], _∷_, _++_, append-nil, append-assoc, List·Memᴰ·head, List·Memᴰ·tail}
 use mathlib.Core.Option.{Option}
 use Prim.Native.Nat.{ℕ, _+_, _-_, _≤_, _<_}
@@ -10,12 +10,13 @@ use lib.ListN.{length, getD, drop, length-drop}
 use Rattle.scope.specs.Lists.{_∈_}
 use Rattle.scope.specs.Grid.{Record}
 use Rattle.scope.specs.Layers.{Segment, one, stored}
-use Rattle.scope.specs.Draws.{pairsOf, drawRecord, drawn}
+use Rattle.scope.specs.Draws.{pairsOf, drawn}
 use Rattle.scope.proofs.Stored.{one-few}
-use Rattle.scope.proofs.Draws.{drawn-next, drawn-none, drawn-full}
 use Rattle.draws.proofs.Pairs.{draws-next}
 use Rattle.stored.specs.Flat.{Put}
 use Rattle.stored.proofs.Flat.{put-none, put-more}
+use Rattle.segmentation.specs.Segments.{drawRecord}
+use Rattle.segmentation.proofs.Drawn.{drawn-next, drawn-none, drawn-full}
 
 -- before the entry i of the list, with the first count records stored: what draws leave in all is those, and what the rest leaves until w stand
 pub record Drawing (find : ℕ → ℕ → Option Record) (draws : List ℕ) (w : ℕ) (rows₀ : List ℕ) (gains₀ : List Float) (rows : List ℕ) (gains : List Float) (count i : ℕ) : Type 0 where

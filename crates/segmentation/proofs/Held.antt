@@ -7,7 +7,7 @@ use Rattle.scope.specs.Refusals.{toldUnless}
 use Rattle.scope.specs.Grid.{Record}
 use Rattle.control.proofs.Follows.{held-refused, held-given}
 use Rattle.stored.specs.Flat.{flatRows, gainsOf}
-use Rattle.segmentation.specs.Seeds.{Slices, Held}
+use Rattle.segmentation.specs.Segments.{Slices, Held}
 
 -- k is the number that the definition gives
 module _ {k no : ℕ} (is : k ≡ no) (sums : List Float) (records : List Record) (before : Slices) where

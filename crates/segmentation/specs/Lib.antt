@@ -1,2 +1,2 @@
 -- The records of segments.
-pub mod Seeds
+pub mod Segments

@@ -11,12 +11,12 @@ ghost use Prim.Native.Nat.{_+_, _*_, _<_, _≤_};
 ghost use lib.ListN.{length};
 ghost use Rattle.scope.specs.Refusals.{wrongLayers};
 ghost use Rattle.scope.specs.Layers.{one, seeded, layerSegments, layersTotal};
-ghost use Rattle.scope.specs.Draws.{drawRecord, drawn, storedSegments, mostStored};
+ghost use Rattle.scope.specs.Draws.{drawn, storedSegments, mostStored};
 ghost use Rattle.scope.specs.Calls.{storedRefusal};
 ghost use Rattle.control.specs.Settings.{shortestOf};
 ghost use Rattle.stored.specs.Flat.{Put};
 ghost use Rattle.layers.specs.Layer.{segmentOf, Made};
-ghost use Rattle.segmentation.specs.Seeds.{searchOver, storedOver, Within, storedAsked, StoresSegments};
+ghost use Rattle.segmentation.specs.Segments.{searchOver, storedOver, drawRecord, Within, storedAsked, StoresSegments};
 
 // Searches a segment and stores its record at the place `at`; a segment that the search refuses leaves none. Tells the next place.
 fn store_segment(

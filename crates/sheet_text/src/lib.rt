@@ -1,5 +1,5 @@
 // The sheet's text: how many cuts, a line for each, how many nodes. Inside the library.
-// A run without layers chooses direct records alone, so a cut's record is the first one made that splits there (proofs/Lookup.antt).
+// A run without stored segments chooses direct records alone, so a cut's record is the first one made that splits there (proofs/Lookup.antt).
 use binary_segmentation::tree::Counts;
 use optimizer::optimizer_result::GainRecord;
 use rows::Position;

@@ -4,18 +4,15 @@ use mathlib.Core.Bool.{true, false}
 use mathlib.Core.List.{List, [], _∷_}
 use borrow.Author.Tests.{lt-ltb, le-ltb}
 use denote.Ref.{now}
-use Rattle.scope.specs.Asked.{Source}
-use Rattle.scope.specs.Refusals.{Test, no6}
-use Rattle.scope.specs.Draws.{no5-draws, no6-both, no6-most}
+use Rattle.scope.specs.Refusals.{Test}
 use Rattle.control.proofs.Clean.{answers}
+use Rattle.draws.specs.Source.{sourceTests}
 use borrow.Author.Needs.{needs}
 use Rattle.draws.proofs.source_refusal.Statement.{statement}
 use Rattle.draws.proofs.source_refusal.Tie as tie
 
 abbrev tests : tie.Start → List Test
-tests s =
-    let source : Source = record { layers = now (s .args .layers); draws = now (s .args .draws); W = s .args .w } in
-    no5-draws source ∷ no6 (source .layers) ∷ no6-both source ∷ no6-most source ∷ []
+tests s = sourceTests (record { layers = now (s .args .layers); draws = now (s .args .draws); W = s .args .w })
 
 returns : tie.Need-returns
 returns c = answers (tests (c .before .before .before .before)) (true ∷ []) (sym (c .before .is-odd .ensures) ∙ c .if1 .taken, tt)

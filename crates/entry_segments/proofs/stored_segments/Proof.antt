@@ -1,11 +1,11 @@
 -- `stored_segments` meets its contract: a number, and nothing is told; or the records, with the sums left.
-use mathlib.Core.Path.{_≡_, refl, sym, _∙_, ap}
+use mathlib.Core.Path.{_≡_, sym, _∙_, ap}
 use denote.Ref.{now}
 use lib.ListN.{length}
 use Rattle.scope.specs.Calls.{sumsOf, StoredAsked, storedRefusal, storedOf, storedCall}
 use Rattle.control.specs.Settings.{shortestOf}
 use Rattle.control.proofs.Follows.{answer-refused, answer-given}
-use Rattle.segmentation.specs.Seeds.{Slices, storedAsked}
+use Rattle.segmentation.specs.Segments.{Slices, storedAsked}
 use Rattle.segmentation.proofs.Held.{none-held, all-held}
 use Rattle.entry_mean.specs.Answers.{countOf}
 use Rattle.entry_mean.specs.declared.Count.the-variants.{Written}

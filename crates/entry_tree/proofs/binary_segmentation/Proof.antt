@@ -35,7 +35,7 @@ use denote.Ref.{now}
 use Rattle.scope.specs.Asked.{Matrix, Source}
 use Rattle.control.specs.Settings.{settingsOf}
 use Rattle.control.specs.declared.Settings.{Settings}
-use Rattle.segmentation.specs.Seeds.{Slices as RecordSlices}
+use Rattle.segmentation.specs.Segments.{Slices as RecordSlices}
 use Rattle.prepared.specs.Answers.{treeAsked, Prepares}
 use Rattle.entry_tree.specs.Left.{Slices, recordSlices}
 use Rattle.binary_segmentation.specs.Growth.{Lent}

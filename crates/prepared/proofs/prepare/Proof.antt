@@ -1,5 +1,5 @@
 -- `prepare` meets its contract: a number, and nothing is told; or the records of the stored segments, with the sums left.
-use mathlib.Core.Path.{_≡_, refl, sym, _∙_, ap}
+use mathlib.Core.Path.{_≡_, sym, _∙_, ap}
 use Prim.Native.Nat.{ℕ}
 use denote.Ref.{now}
 use lib.ListN.{length}
@@ -7,7 +7,7 @@ use Rattle.scope.specs.Tree.{storedRecords}
 use Rattle.scope.specs.Calls.{sumsOf, sumsRoom, TreeAsked, treeRefusal}
 use Rattle.control.specs.Settings.{settingsOf}
 use Rattle.control.proofs.Follows.{answer-refused, answer-given}
-use Rattle.segmentation.specs.Seeds.{Slices}
+use Rattle.segmentation.specs.Segments.{Slices}
 use Rattle.segmentation.proofs.Held.{none-held, all-held}
 use Rattle.prepared.specs.Answers.{treeAsked, recordsBefore, preparedOf}
 use Rattle.prepared.specs.declared.Prepared.the-variants.{Stored}

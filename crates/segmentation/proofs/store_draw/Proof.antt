@@ -1,6 +1,6 @@
 -- `store_draw` meets its contract: a draw that is passed over leaves no record, and any other what its search leaves.
 use mathlib.Core.Path.{_≡_, sym, _∙_}
-use mathlib.Core.Bool.{true, false}
+use mathlib.Core.Bool.{true}
 use native.Mathlib.Omega.{arith}
 use borrow.Author.Tests.{ltb-true, not-true, not-false}
 use Rattle.scope.specs.Draws.{isSearched}

@@ -1,15 +1,13 @@
 -- `store_draws` meets its contract: before each pair, those records stand that the pairs passed have left, and the rest of the list is to leave the others.
-use mathlib.Core.Path.{_≡_, sym, _∙_}
-use mathlib.Core.List.{List}
 use mathlib.Core.Option.{Option}
-use Prim.Native.Nat.{ℕ, _+_, _-_, _≤_}
+use Prim.Native.Nat.{ℕ, _-_, _≤_}
 use native.Mathlib.Omega.{arith}
 use denote.Ref.{now}
-use lib.ListN.{length, getD}
+use lib.ListN.{length}
 use Rattle.scope.specs.Grid.{Record}
 use Rattle.control.specs.Settings.{shortestOf}
 use Rattle.stored.proofs.Flat.{put-long}
-use Rattle.segmentation.specs.Seeds.{searchOver}
+use Rattle.segmentation.specs.Segments.{searchOver}
 use Rattle.segmentation.proofs.Clean.{draw-within}
 use Rattle.segmentation.proofs.Drawing.{Drawing, drawing-none, drawing-pair, drawing-next, drawing-ends, drawing-full}
 use borrow.Author.Needs.{needs}

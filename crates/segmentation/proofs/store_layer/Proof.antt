@@ -6,7 +6,7 @@ use native.Mathlib.Omega.{arith}
 use denote.Ref.{now}
 use Rattle.scope.specs.Layers.{layerSegments, stored}
 use Rattle.stored.specs.Flat.{Put}
-use Rattle.segmentation.specs.Seeds.{searchOver, storedOver}
+use Rattle.segmentation.specs.Segments.{searchOver, storedOver}
 use Rattle.stored.proofs.Flat.{put-none, put-more, put-long}
 use Rattle.segmentation.proofs.Stored.{layer-next, layer-few}
 use Rattle.control.specs.Settings.{shortestOf}

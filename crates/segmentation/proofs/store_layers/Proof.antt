@@ -7,7 +7,7 @@ use lib.ListN.{length, take}
 use lib.Seq.{take-all}
 use Rattle.scope.specs.Layers.{layerCount, seeded, stored}
 use Rattle.stored.specs.Flat.{Put}
-use Rattle.segmentation.specs.Seeds.{searchOver, storedOver}
+use Rattle.segmentation.specs.Segments.{searchOver, storedOver}
 use Rattle.stored.proofs.Flat.{put-none, put-more, put-long}
 use Rattle.layers.proofs.Layered.{right-at, total-next, total-within}
 use Rattle.segmentation.proofs.Stored.{layers-next, layers-few}

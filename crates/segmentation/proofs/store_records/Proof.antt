@@ -1,18 +1,13 @@
 -- `store_records` meets its contract: what the draws leave where there are any, else what the layers leave.
-use mathlib.Core.Path.{_≡_, sym}
 use mathlib.Core.List.{List}
-use mathlib.Core.Option.{Option}
-use Prim.Native.Nat.{ℕ}
 use native.Mathlib.Omega.{arith}
 use denote.Ref.{now}
-use Rattle.scope.specs.Grid.{Record}
 use Rattle.scope.specs.Layers.{Segment, seeded, layersTotal}
 use Rattle.scope.specs.Draws.{drawn}
 use Rattle.control.specs.Settings.{shortestOf}
 use Rattle.draws.proofs.Given.{by-layers, by-wild}
 use Rattle.stored.proofs.Flat.{put-long}
-use Rattle.segmentation.specs.Seeds.{searchOver}
-use borrow.Author.Needs.{needs}
+use Rattle.segmentation.specs.Segments.{searchOver}
 use Rattle.segmentation.proofs.store_records.Statement.{statement}
 use Rattle.segmentation.proofs.store_records.Tie as tie
 

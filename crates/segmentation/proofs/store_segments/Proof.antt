@@ -1,23 +1,16 @@
 -- `store_segments` meets its contract: the sums, and over them the records of the stored segments.
-use mathlib.Core.Path.{_≡_, sym, _∙_, ap}
-use mathlib.Core.List.{List}
-use Prim.Native.Nat.{_+_, _*_, _≤_}
+use mathlib.Core.Path.{sym, _∙_}
 use native.Mathlib.Omega.{arith}
 use denote.Ref.{now}
-use lib.Ieee.{Float}
-use lib.ListN.{length}
 use lib.Seq.{length-take-le}
-use Rattle.scope.specs.Lists.{holding}
 use Rattle.scope.specs.Asked.{Source}
-use Rattle.scope.specs.Grid.{Record}
-use Rattle.scope.specs.Draws.{storedSegments}
 use Rattle.scope.specs.Calls.{StoredAsked, searchIn, storedOf}
 use Rattle.scope.proofs.Draws.{records-few}
 use Rattle.control.specs.Settings.{shortestOf}
 use Rattle.change_in_mean.proofs.Room.{sums-are, sums-part, row-within}
-use Rattle.stored.specs.Flat.{flatRows, gainsOf, Put}
+use Rattle.stored.specs.Flat.{Put}
 use Rattle.stored.proofs.Flat.{put-long, put-told}
-use Rattle.segmentation.specs.Seeds.{searchOver, storedOver, storedAsked}
+use Rattle.segmentation.specs.Segments.{storedAsked}
 use Rattle.segmentation.proofs.Clean.{StoredClean, stored-clean, draws-within}
 use borrow.Author.Needs.{needs}
 use Rattle.segmentation.proofs.store_segments.Statement.{statement}

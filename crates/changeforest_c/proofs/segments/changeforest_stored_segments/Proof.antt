@@ -2,7 +2,7 @@
 use mathlib.Core.Path.{sym, _∙_}
 use denote.Ref.{now}
 use Rattle.scope.specs.Calls.{StoredAsked, storedCall}
-use Rattle.segmentation.specs.Seeds.{storedAsked}
+use Rattle.segmentation.specs.Segments.{storedAsked}
 use Rattle.changeforest_c.proofs.Heard.{count-given, count-refused}
 use borrow.Author.Needs.{needs}
 use Rattle.changeforest_c.proofs.segments.changeforest_stored_segments.Statement.{statement}
