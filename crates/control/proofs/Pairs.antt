@@ -3,24 +3,20 @@ use mathlib.Core.Path.{_≡_, refl, sym, _∙_}
 use mathlib.Core.Logic.{⊎-elim}
 use mathlib.Core.Bool.{false, _&&_}
 use mathlib.Core.List.{List, [], _∷_}
-use Prim.Native.Nat.{ℕ, suc, _+_, _≤_, _<_}
+use Prim.Native.Nat.{ℕ, _+_, _≤_, _<_}
 use native.Mathlib.Nat.{eq-or-lt-of-le}
-use native.Mathlib.Numerals.{add-one}
 use native.Mathlib.Omega.{arith}
 use borrow.Author.Tests.{eq-eqb, ne-eqb}
 use lib.Dec.{leb, eqb}
 use lib.ListN.{length, getD, drop, length-drop}
-use lib.Seq.{drop-cons, drop-length}
+use lib.Seq.{drop-length}
+use Rattle.rows.proofs.Pairs.{pair-next}
 use Rattle.scope.specs.Refusals.{wellPaired}
 
 -- the pair at i, and those after it
 pub paired-next : (ps : List ℕ) (i : ℕ) → i + 1 < length ps → wellPaired (drop i ps) ≡ (leb (getD ps i 0) (getD ps (i + 1) 0) && wellPaired (drop (i + 2) ps))
 unfolding wellPaired
-paired-next ps i h =
-    let two : i + 2 ≡ suc (suc i) = omega arith in
-    let first : i < length ps = omega arith in
-    let second : suc i < length ps = omega arith in
-    rw (two, add-one, drop-cons ps i 0, drop-cons ps (suc i) 0)
+paired-next ps i h = rw (pair-next ps 0 i h)
 
 one-left : (l : List ℕ) → length l ≡ 1 → wellPaired l ≡ false
 unfolding wellPaired

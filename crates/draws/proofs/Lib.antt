@@ -1,3 +1,3 @@
--- Draws: whether there are any; read from the front.
+-- Draws: whether there are any; whether one stops past the run.
 pub mod Given
-pub mod Pairs
+pub mod Past

@@ -7,9 +7,8 @@ ghost use mathlib.Core.Bool.{false};
 ghost use Prim.Native.Nat.{_+_, _<_};
 ghost use lib.ListN.{length, getD};
 ghost use Rattle.scope.specs.Refusals.{firstOf, wrongLayers};
-ghost use Rattle.scope.specs.Draws.{isSearched, isOdd, bothGiven, isPast, anyPast, mostStored};
+ghost use Rattle.scope.specs.Draws.{isSearched, isOdd, bothGiven, isPast, anyPast, mostStored, sourceTests};
 ghost use Rattle.layers.specs.Layer.{segmentOf};
-ghost use Rattle.draws.specs.Source.{sourceTests};
 
 // W is at most this.
 pub const MOST_WILD: usize = 4096;

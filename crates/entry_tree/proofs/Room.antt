@@ -1,15 +1,15 @@
 -- `nodeRoom` is room for the nodes of any run: with it, the nodes never cause a refusal. Assumes nothing.
 use mathlib.Core.Path.{_≡_, refl, sym, _∙_, ap}
 use mathlib.Core.Bool.{Bool, true, false}
-use mathlib.Core.List.{List, [], _∷_}
+use mathlib.Core.List.{List, [], _∷_, _++_}
 use Prim.Native.Nat.{ℕ, _+_, _-_, _/_, _≤_}
 use native.Mathlib.Nat.{div-le-self}
 use native.Mathlib.Omega.{arith}
 use borrow.Author.Tests.{le-ltb}
 use lib.Dec.{ltb}
 use Rattle.scope.specs.Asked.{Matrix, Shortest, oneMore, endOf, Settings}
-use Rattle.scope.specs.Refusals.{Test, test, firstOf, wrongMatrix, mostRows, no2, no3, no4, no5, no6, no7}
-use Rattle.scope.specs.Draws.{mostStored, no5-draws, no6-both, no6-most, no8-draws}
+use Rattle.scope.specs.Refusals.{Test, test, firstOf, wrongMatrix, mostRows, no2, no3, no4, no5, no7}
+use Rattle.scope.specs.Draws.{mostStored, sourceTests, no8-draws}
 use Rattle.scope.specs.Tree.{mostNodes}
 use Rattle.scope.specs.Calls.{sumsRoom, TreeAsked, treeRefusal}
 use Rattle.scope.proofs.Candidates.{one-at-most}
@@ -33,8 +33,8 @@ module _ (x : Matrix) (s : Settings) (sums records cuts : ℕ) where
 
   abbrev others : Bool → List Test
   others b =
-      no2 (s .shortest) ∷ no3 (s .threshold) ∷ no4 (x .cells) ∷ no5 (s .forbidden) ∷ no5-draws (s .source) ∷ no6 (s .source .layers) ∷ no6-both (s .source) ∷ no6-most (s .source) ∷ no7 (sumsRoom x) sums
-      ∷ no7 (mostStored (s .source) + most) records ∷ test b 7 ∷ no7 ((most - 1) / 2) cuts ∷ no8-draws (x .n) (s .source) ∷ []
+      no2 (s .shortest) ∷ no3 (s .threshold) ∷ no4 (x .cells) ∷ no5 (s .forbidden) ∷ sourceTests (s .source)
+      ++ (no7 (sumsRoom x) sums ∷ no7 (mostStored (s .source) + most) records ∷ test b 7 ∷ no7 ((most - 1) / 2) cuts ∷ no8-draws (x .n) (s .source) ∷ [])
 
   pub nodes-fit : treeRefusal (with nodeRoom) ≡ treeRefusal (with most)
   unfolding treeRefusal

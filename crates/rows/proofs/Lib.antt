@@ -1,2 +1,3 @@
--- Laws on lists that every writing loop uses.
+-- Laws on lists that every writing loop uses, and on pairs that stand flat.
 pub mod Stored
+pub mod Pairs

@@ -1,5 +1,5 @@
 // A row's position in the run and its offset in a segment: two counts that are never handed for one another.
-// They are converted only through the segment's start. After document 01, "separate counts". Laws on lists that writing loops share: proofs/Stored.antt.
+// They are converted only through the segment's start. After document 01, "separate counts". Laws on lists that loops share: proofs/Stored.antt, proofs/Pairs.antt.
 ghost use mathlib.Core.Path.{_≡_};
 ghost use Prim.Native.Nat.{_+_, _-_, _<_, _≤_, _^_};
 

@@ -9,14 +9,14 @@ use lib.Ieee.{Float}
 use lib.ListN.{length, take}
 use Rattle.scope.specs.Lists.{every}
 use Rattle.scope.specs.Asked.{Matrix, Shortest, Source, Settings}
-use Rattle.scope.specs.Refusals.{Test, test, firstOf, Answer, refused, given, unless, toldUnless, outside, mostRows, mostNeighbours, mostCurves, mostLength, no1, no1-rows, no2, no2-relative, no3, no3-alpha, no4, no5, no6, no7, no8, no8-split, no8-empty, no9}
+use Rattle.scope.specs.Refusals.{Test, test, firstOf, Answer, refused, given, unless, toldUnless, outside, mostRows, mostNeighbours, mostCurves, mostLength, no1, no1-rows, no2, no2-relative, no3, no3-alpha, no4, no5, no7, no8, no8-split, no8-empty, no9}
 use Rattle.scope.specs.Rounding.{minimalLength}
 use Rattle.scope.specs.Candidates.{candidates, rangeSize, no10}
 use Rattle.scope.specs.Sums.{prefixSums}
 use Rattle.scope.specs.Gain.{gainOf}
 use Rattle.scope.specs.Grid.{Record, blank, best, trials, search}
 use Rattle.scope.specs.Layers.{Segment, stored}
-use Rattle.scope.specs.Draws.{storedSegments, mostStored, no5-draws, no6-both, no6-most, no8-draws}
+use Rattle.scope.specs.Draws.{storedSegments, mostStored, sourceTests, no8-draws}
 use Rattle.scope.specs.Tree.{Run, storedRecords, treeOf, recordsOf, Node, nodes, nodeCount, sheet, mostNodes}
 use Rattle.scope.specs.Neighbours.{orders, distances, predictions}
 use Rattle.scope.specs.Curves.{curve, picked, isMember, guesses}
@@ -159,14 +159,8 @@ storedTests a =
     ∷ no2 (a .shortest)
     ∷ no4 (a .matrix .cells)
     ∷ no5 (a .forbidden)
-    ∷ no5-draws (a .source)
-    ∷ no6 (a .source .layers)
-    ∷ no6-both (a .source)
-    ∷ no6-most (a .source)
-    ∷ no7 (sumsRoom (a .matrix)) (a .sums)
-    ∷ no7 (mostStored (a .source)) (a .records)
-    ∷ no8-draws (a .matrix .n) (a .source)
-    ∷ []
+    ∷ sourceTests (a .source)
+    ++ (no7 (sumsRoom (a .matrix)) (a .sums) ∷ no7 (mostStored (a .source)) (a .records) ∷ no8-draws (a .matrix .n) (a .source) ∷ [])
 
 unfoldable pub storedRefusal : StoredAsked → ℕ
 storedRefusal a = firstOf (storedTests a)
@@ -217,15 +211,12 @@ treeRoomTests a =
     ∷ no3 (s .threshold)
     ∷ no4 (a .matrix .cells)
     ∷ no5 (s .forbidden)
-    ∷ no5-draws (s .source)
-    ∷ no6 (s .source .layers)
-    ∷ no6-both (s .source)
-    ∷ no6-most (s .source)
-    ∷ no7 (sumsRoom (a .matrix)) (a .room .sums)
+    ∷ sourceTests (s .source)
+    ++ (no7 (sumsRoom (a .matrix)) (a .room .sums)
     ∷ no7 (mostStored (s .source) + most) (a .room .records)
     ∷ no7 most (a .room .nodes)
     ∷ no7 ((most - 1) / 2) (a .room .cuts)
-    ∷ []
+    ∷ [])
 
 abbrev pub treeTests : TreeAsked → List Test
 treeTests a = treeRoomTests a ++ (no8-draws (a .matrix .n) (a .settings .source) ∷ [])

@@ -9,7 +9,7 @@ use lib.Ieee.{Float}
 use lib.ListN.{length, take}
 use Rattle.scope.specs.Lists.{_∈_, select, every, isEmpty}
 use Rattle.scope.specs.Asked.{Source}
-use Rattle.scope.specs.Refusals.{Test, test}
+use Rattle.scope.specs.Refusals.{Test, test, no6}
 use Rattle.scope.specs.Allowed.{Pair}
 use Rattle.scope.specs.Grid.{Record}
 use Rattle.scope.specs.Layers.{Segment, seeded, layersTotal, stored}
@@ -66,6 +66,10 @@ no6-both s = test (bothGiven (s .layers) (s .draws)) 6
 
 abbrev pub no6-most : Source → Test
 no6-most s = test (ltb mostWild (s .W)) 6
+
+-- what is refused of layers, draws and W by 5 and 6, in number order
+abbrev pub sourceTests : Source → List Test
+sourceTests s = no5-draws s ∷ no6 (s .layers) ∷ no6-both s ∷ no6-most s ∷ []
 
 -- ---- 8 "also for a draw with stop > n": any of the list's, one that is passed over or never reached too
 abbrev pub isPast : ℕ → Segment → Bool

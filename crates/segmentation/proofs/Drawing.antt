@@ -7,12 +7,12 @@ use native.Mathlib.Nat.{sub-zero}
 use native.Mathlib.Omega.{arith}
 use lib.Ieee.{Float}
 use lib.ListN.{length, getD, drop, length-drop}
+use Rattle.rows.proofs.Pairs.{pair-next}
 use Rattle.scope.specs.Lists.{_∈_}
 use Rattle.scope.specs.Grid.{Record}
 use Rattle.scope.specs.Layers.{Segment, one, stored}
 use Rattle.scope.specs.Draws.{pairsOf, drawn}
 use Rattle.scope.proofs.Stored.{one-few}
-use Rattle.draws.proofs.Pairs.{draws-next}
 use Rattle.stored.specs.Flat.{Put}
 use Rattle.stored.proofs.Flat.{put-none, put-more}
 use Rattle.segmentation.specs.Segments.{drawRecord}
@@ -35,7 +35,7 @@ module _ (find : ℕ → ℕ → Option Record) (draws : List ℕ) (w : ℕ) {ro
     -- the pair at i
     rest-is : i + 1 < length draws → pairsOf (drop i draws) ≡ record { start = getD draws i 0; stop = getD draws (i + 1) 0 } ∷ pairsOf (drop (i + 2) draws)
     unfolding pairsOf
-    rest-is h = rw (draws-next draws i h)
+    rest-is h = rw (pair-next draws 0 i h)
 
     pub drawing-pair : i + 1 < length draws → record { start = getD draws i 0; stop = getD draws (i + 1) 0 } ∈ pairsOf draws
     drawing-pair h = at .ours _ (rw (rest-is h) (List·Memᴰ·head refl))
@@ -46,7 +46,7 @@ module _ (find : ℕ → ℕ → Option Record) (draws : List ℕ) (w : ℕ) {ro
         → stored find (drawn find (drop i draws) (w - count)) ≡ one (drawRecord find s) ++ stored find (drawn find (drop (i + 2) draws) (w - next))
     following h l {s} is {next = next} put =
         let left : w - next ≡ w - count - length (one (drawRecord find s)) = omega (arith, put .told) in
-        rw (draws-next draws i h, left, is) (drawn-next find (getD draws i 0) (getD draws (i + 1) 0) (drop (i + 2) draws) (w - count) (omega arith))
+        rw (pair-next draws 0 i h, left, is) (drawn-next find (getD draws i 0) (getD draws (i + 1) 0) (drop (i + 2) draws) (w - count) (omega arith))
 
     pub drawing-next : i + 1 < length draws → count < w → {s : Segment} → s ≡ record { start = getD draws i 0; stop = getD draws (i + 1) 0 }
         → {rows₁ : List ℕ} {gains₁ : List Float} {next : ℕ} → Put (one (drawRecord find s)) count rows gains rows₁ gains₁ next

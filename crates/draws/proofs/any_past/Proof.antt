@@ -5,7 +5,7 @@ use native.Mathlib.Omega.{arith}
 use denote.Ref.{now}
 use lib.ListN.{length, drop}
 use Rattle.scope.specs.Draws.{isPast, anyPast}
-use Rattle.draws.proofs.Pairs.{past-next, past-end}
+use Rattle.draws.proofs.Past.{past-next, past-end}
 use borrow.Author.Needs.{needs}
 use Rattle.draws.proofs.any_past.Statement.{statement}
 use Rattle.draws.proofs.any_past.Tie as tie

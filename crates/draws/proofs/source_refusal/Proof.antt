@@ -5,8 +5,8 @@ use mathlib.Core.List.{List, [], _∷_}
 use borrow.Author.Tests.{lt-ltb, le-ltb}
 use denote.Ref.{now}
 use Rattle.scope.specs.Refusals.{Test}
+use Rattle.scope.specs.Draws.{sourceTests}
 use Rattle.control.proofs.Clean.{answers}
-use Rattle.draws.specs.Source.{sourceTests}
 use borrow.Author.Needs.{needs}
 use Rattle.draws.proofs.source_refusal.Statement.{statement}
 use Rattle.draws.proofs.source_refusal.Tie as tie

@@ -1,28 +1,18 @@
--- Draws, read from the front. Assumes nothing.
+-- Whether a draw stops past the run, pair by pair. Assumes nothing.
 use mathlib.Core.Path.{_≡_, refl}
 use mathlib.Core.Bool.{Bool, true, false, not, _&&_, _||_}
 use mathlib.Core.List.{List, [], _∷_}
-use Prim.Native.Nat.{ℕ, suc, _+_, _≤_, _<_}
-use native.Mathlib.Numerals.{add-one}
+use Prim.Native.Nat.{ℕ, _+_, _≤_, _<_}
 use native.Mathlib.Omega.{arith}
 use lib.ListN.{length, getD, drop, length-drop}
-use lib.Seq.{drop-cons}
+use Rattle.rows.proofs.Pairs.{pair-next}
 use Rattle.scope.specs.Lists.{every}
 use Rattle.scope.specs.Draws.{pairsOf, isPast, anyPast}
 
--- the pair at i, and those after it
-pub draws-next : (ds : List ℕ) (i : ℕ) → i + 1 < length ds → drop i ds ≡ getD ds i 0 ∷ getD ds (i + 1) 0 ∷ drop (i + 2) ds
-draws-next ds i h =
-    let two : i + 2 ≡ suc (suc i) = omega arith in
-    let first : i < length ds = omega arith in
-    let second : suc i < length ds = omega arith in
-    rw (two, add-one, drop-cons ds i 0, drop-cons ds (suc i) 0)
-
--- ---- those that stop past the run
 module _ (n : ℕ) where
   pub past-next : (ds : List ℕ) (i : ℕ) → i + 1 < length ds → anyPast n (drop i ds) ≡ (isPast n (record { start = getD ds i 0; stop = getD ds (i + 1) 0 }) || anyPast n (drop (i + 2) ds))
   unfolding anyPast pairsOf every
-  past-next ds i h = rw (draws-next ds i h) (go (isPast n (record { start = getD ds i 0; stop = getD ds (i + 1) 0 })) (every (λ s. not (isPast n s)) (pairsOf (drop (i + 2) ds))))
+  past-next ds i h = rw (pair-next ds 0 i h) (go (isPast n (record { start = getD ds i 0; stop = getD ds (i + 1) 0 })) (every (λ s. not (isPast n s)) (pairsOf (drop (i + 2) ds))))
     where
       go : (a b : Bool) → not (not a && b) ≡ (a || not b)
       go true b = refl
