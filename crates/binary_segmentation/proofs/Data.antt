@@ -11,8 +11,8 @@ use Rattle.control.specs.declared.Settings.{Settings}
 use Rattle.node.proofs.Data.{gain-record, node}
 use Rattle.control.proofs.Settings as settings′
 use Rattle.control.proofs.Settings.Laws as settings″
-use Rattle.binary_segmentation.proofs.tree.Asked as asked′
-use Rattle.binary_segmentation.proofs.tree.Asked.Laws as asked″
+use Rattle.verdict.proofs.Asked as asked′
+use Rattle.verdict.proofs.Asked.Laws as asked″
 use Rattle.binary_segmentation.proofs.tree.Counts as counts′
 use Rattle.binary_segmentation.proofs.tree.Counts.Laws as counts″
 use Rattle.binary_segmentation.proofs.tree.Judged as judged′

@@ -7,7 +7,8 @@ use denote.Builtin.{usize, f64}
 use denote.Ref.{now}
 use Rattle.lent.proofs.Data.{word}
 use Rattle.lent.proofs.Held.{Deal, unique, shared, plain}
-use Rattle.binary_segmentation.specs.Growth.{over, behindCut, Judging, Growing, Fits, Sized, Ready, Segmented}
+use Rattle.binary_segmentation.specs.Growth.{behindCut, Judging, Growing, Fits, Ready, Segmented}
+use Rattle.verdict.specs.Rules.{over, Sized}
 use Rattle.node.proofs.Data.{position, node}
 use Rattle.binary_segmentation.proofs.Data.{asked, counts, judged}
 

@@ -21,11 +21,10 @@ use Rattle.stored.proofs.Flat.{put-more, put-long, put-read}
 use Rattle.node.specs.declared.Node.{Node as NodeStruct}
 use Rattle.optimizer.specs.declared.optimizer_result.GainRecord.{GainRecord}
 use Rattle.optimizer.specs.Records.{toRecord, fromRecord}
-use Rattle.binary_segmentation.specs.declared.tree.Asked.{Asked}
 use Rattle.binary_segmentation.specs.declared.tree.Counts.{Counts}
 use Rattle.binary_segmentation.specs.declared.tree.Judged.the-variants.{Uncut, Cut}
 use Rattle.node.specs.Nodes.{toNode, leafOf, cutOf}
-use Rattle.binary_segmentation.specs.Growth.{Lent, stored, judgedOf, behind, behindCut, Judging, Written, Growing, Sound, Fits, Sized}
+use Rattle.binary_segmentation.specs.Growth.{Lent, stored, judgedOf, behind, behindCut, Judging, Written, Growing, Sound, Fits}
 use Rattle.demand.proofs.Records.{direct-found, one-found}
 use Rattle.demand.proofs.Inside.{inside-are}
 use Rattle.scope.proofs.Candidates.{one-at-most}
@@ -146,10 +145,6 @@ of-uncut start stop n (cut c) d next h = never (cc)
 of-cut : (start stop : ℕ) (n : Counts) (v : Verdict) (c : GainRecord) (next : Counts) → Cut c next ≡ judgedOf start stop n v → (v ≡ cut (toRecord c)) × (next ≡ n)
 of-cut start stop n (uncut o) c next h = never (cc)
 of-cut start stop n (cut r) c next h = let w : c ≡ fromRecord r = cc in (ap (λ (x : GainRecord). cut (toRecord x)) (sym w), (cc))
-
--- a shorter stop asks less
-pub sized-left : (s : Asked) (c stop long : ℕ) → c < stop → Sized s stop long → Sized s c long
-sized-left s c stop long h k = (k .0, omega (arith, k .1), le-trans (mul-le-mul-right (s .d) (omega arith)) (k .2))
 
 module _ (q : Run) (start stop : ℕ) (at : Counts) (l : Lent) (fits : Fits q start stop at l) where
   abbrev rs : List Record

@@ -13,10 +13,11 @@ use Rattle.scope.specs.Layers.{Segment, one}
 use Rattle.scope.specs.Tree.{Run, direct, choice, verdict, storedRecords, parted, grow, grown, treeOf, recordsOf, nodes, nodeCount, sheet, mostNodes}
 use Rattle.stored.specs.Flat.{flatRows, gainsOf, recordsIn, Put}
 use Rattle.stored.proofs.Flat.{sets-holding, put-more, put-told, told-put}
-use Rattle.binary_segmentation.specs.declared.tree.Asked.{Asked}
+use Rattle.verdict.specs.declared.Asked.{Asked}
+use Rattle.verdict.specs.Rules.{runOver, over}
 use Rattle.binary_segmentation.specs.declared.tree.Counts.{Counts}
 use Rattle.node.specs.Nodes.{toNode}
-use Rattle.binary_segmentation.specs.Growth.{runOver, over, Lent, stored, Written, Growing, Sound, Fits, Ready, Holds, Segmented}
+use Rattle.binary_segmentation.specs.Growth.{Lent, stored, Written, Growing, Sound, Fits, Ready, Holds, Segmented}
 use Rattle.demand.proofs.Records.{segments-are}
 use Rattle.demand.proofs.Demand.{demand}
 use Rattle.binary_segmentation.proofs.Growth.{direct-sound, made-few, nodes-long}

@@ -8,7 +8,6 @@ use lib.ListN.{length}
 use lib.Seq.{sets}
 use Rattle.scope.specs.Lists.{_∈_, holding}
 use Rattle.scope.specs.Asked.{Shortest}
-use Rattle.scope.specs.Gain.{gainOf}
 use Rattle.scope.specs.Grid.{Record}
 use Rattle.scope.specs.Layers.{Segment, one}
 use Rattle.scope.specs.Tree.{Run, direct, storedRecords, Verdict, uncut, cut, verdict, Grown, grow, treeOf, recordsOf, nodes, nodeCount, sheet, mostNodes}
@@ -16,19 +15,12 @@ use Rattle.control.specs.Settings.{shortestOf}
 use Rattle.optimizer.specs.Records.{fromRecord}
 use Rattle.stored.specs.Flat.{flatRows, gainsOf, recordsIn, Put}
 use Rattle.node.specs.declared.Node.{Node as NodeStruct}
-use Rattle.binary_segmentation.specs.declared.tree.Asked.{Asked}
+use Rattle.verdict.specs.declared.Asked.{Asked}
+use Rattle.verdict.specs.Rules.{runOver}
 use Rattle.binary_segmentation.specs.declared.tree.Counts.{Counts}
 use Rattle.binary_segmentation.specs.declared.tree.Judged.{Judged}
 use Rattle.binary_segmentation.specs.declared.tree.Judged.the-variants.{Uncut, Cut}
 use Rattle.node.specs.Nodes.{toNode, leafOf}
-
--- a run over prefix sums: n rows, and its stored segments
-abbrev pub runOver : List Float → List ℕ → Asked → ℕ → List Segment → Run
-runOver sums forbidden s n segments = record { n = n; shortest = shortestOf (s .settings .shortest); threshold = s .settings .threshold; forbidden = forbidden; segments = segments; gain = gainOf sums (s .d) }
-
--- what growing reads of it: neither n nor the stored segments
-abbrev pub over : List Float → List ℕ → Asked → Run
-over sums forbidden s = runOver sums forbidden s 0 []
 
 -- the lent slices
 pub record Lent : Type 0 where
@@ -85,10 +77,6 @@ pub record Fits (q : Run) (start stop : ℕ) (at : Counts) (l : Lent) : Type 0 w
   pub room-gains : at .records + nodeCount (grow q fuel (stored l (at .records)) start stop .tree) ≤ length (l .gains)
   pub room-nodes : at .nodes + nodeCount (grow q fuel (stored l (at .records)) start stop .tree) ≤ length (l .nodes)
   pub room-cuts : at .cuts + length (sheet (grow q fuel (stored l (at .records)) start stop .tree)) ≤ length (l .cuts)
-
--- the sizes that the search asks
-abbrev pub Sized : Asked → ℕ → ℕ → Type 0
-Sized s stop long = (s .settings .shortest .m ≤ 4096) × (stop ≤ 4096) × ((stop + 1) * s .d ≤ long)
 
 -- ---- the whole run [0, n)
 -- there is room for it, and the first `count` records are those of some segments

@@ -1,22 +1,16 @@
-// Growing the tree: each segment is searched, its direct record appended, its choice judged; if it is cut, its left part is grown, then its right part.
+// Growing the tree: each segment is judged and its direct record appended; if it is cut, its left part is grown, then its right part.
 // What decides stands in small functions. `grow` and `binary_segmentation` hand the lent node list on and decide nothing.
-use control::Settings;
 use node::Node;
 use optimizer::optimizer_result::GainRecord;
-use optimizer::optimizer_result::Searched;
 use rows::Position;
-use stored::choice;
 use stored::records;
+use verdict::Asked;
+use verdict::Verdict;
 ghost use mathlib.Core.Path.{_≡_};
 ghost use Prim.Native.Nat.{_+_, _*_, _<_, _≤_, _^_};
 ghost use lib.ListN.{length, set};
-ghost use Rattle.binary_segmentation.specs.Growth.{over, behind, behindCut, Judging, Growing, Fits, Sized, Ready, Segmented};
-
-// What every segment is asked with: how many columns there are, and the run's settings.
-pub struct Asked {
-    pub d: usize,
-    pub settings: Settings,
-}
+ghost use Rattle.verdict.specs.Rules.{over, Sized};
+ghost use Rattle.binary_segmentation.specs.Growth.{behind, behindCut, Judging, Growing, Fits, Ready, Segmented};
 
 // How many nodes, records and cuts there are: the places of the next ones.
 pub struct Counts {
@@ -45,7 +39,7 @@ impl Counts {
     }
 }
 
-// Searches [start, stop), appends its direct record, and judges its choice among the records before.
+// Judges [start, stop) after the records before, and appends its direct record.
 fn judge(
     sums: &[f64],
     forbidden: &[usize],
@@ -59,26 +53,20 @@ fn judge(
     requires { ⌜ (start .0 ≤ stop .0) × Sized asked (stop .0) (length (now sums)) × (counts .nodes + 1 < 2 ^ 64) × (counts .records + 1 < 2 ^ 64) × (3 * counts .records + 3 ≤ length (now rows)) × (counts .records < length (now gains)) ⌝ }
     ensures { λ r. ⌜ Judging (over (now (sums .entry)) (now (forbidden .entry)) asked) (start .0) (stop .0) counts (now (rows .entry)) (now (gains .entry)) (now (rows .exit)) (now (gains .exit)) r ⌝ }
 {
-    let settings = asked.settings;
-    let shortest = settings.shortest;
-    let Searched::Record(direct) = grid_search::search_segment(
-        sums,
-        asked.d,
-        shortest,
-        forbidden,
-        start,
-        stop,
-    ) else {
-        return Judged::Uncut(Node::without_choice(start, stop), counts.behind(0));
-    };
     let at = counts.records;
-    let choice = choice::choose(direct, rows, gains, at);
-    records::put_record(rows, gains, at, direct);
-    let next = counts.behind(1);
-    if choice::model_selection(choice, settings.threshold) {
-        return Judged::Cut(choice, next);
+    match verdict::judge(sums, forbidden, asked, start, stop, rows, gains, at) {
+        Verdict::WithoutChoice => {
+            Judged::Uncut(Node::without_choice(start, stop), counts.behind(0))
+        }
+        Verdict::Uncut(direct, choice) => {
+            records::put_record(rows, gains, at, direct);
+            Judged::Uncut(Node::uncut(start, stop, choice), counts.behind(1))
+        }
+        Verdict::Cut(direct, choice) => {
+            records::put_record(rows, gains, at, direct);
+            Judged::Cut(choice, counts.behind(1))
+        }
     }
-    Judged::Uncut(Node::uncut(start, stop, choice), next)
 }
 
 // Appends a cut.

@@ -13,4 +13,6 @@ pub mod Level
 pub mod Wholes
 pub mod Zero
 pub mod Demand
+pub mod Place
+pub mod Because
 pub mod ClosedEnd

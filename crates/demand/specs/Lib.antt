@@ -8,4 +8,5 @@ pub mod AllZero
 pub mod Levels
 pub mod ClosedEnd
 pub mod Demand
+pub mod Because
 pub mod Printed

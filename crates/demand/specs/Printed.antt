@@ -1,10 +1,14 @@
--- What the program prints: its text, and of a deck that is not refused the demand on its run, whose tree the lines are of. Assumes nothing.
+-- What the programs print. The sheet's: its text, and of a deck that is not refused the demand on its run, whose tree the lines are of. The one that answers why:
+-- its text, and of a deck and a row that are not refused what is told, which is so. Assumes nothing.
 use mathlib.Core.Path.{_≡_}
 use mathlib.Core.List.{List}
 use Prim.Native.Nat.{ℕ}
 use Rattle.scope.specs.Tree.{treeOf}
 use Rattle.scope.specs.Program.{Deck, barring, feeding, readInput, deckRun, deckRefusal, sheetText, program}
+use Rattle.scope.specs.Why.{Why}
+use Rattle.scope.specs.WhyText.{whyLine, askedRefusal, whyProgram}
 use Rattle.demand.specs.Demand.{Demand}
+use Rattle.demand.specs.Because.{Because}
 
 -- the input's lines make this deck, with rows or without
 pub data Reads (input : List ℕ) (deck : Deck) : Type 0 where
@@ -22,3 +26,15 @@ pub record Printed (deck : Deck) (text : List ℕ) : Type 0 where
 pub record Answers (input text : List ℕ) : Type 0 where
   pub is : text ≡ program input
   pub printed : (deck : Deck) → Reads input deck → deckRefusal deck ≡ 0 → Printed deck text
+
+-- ---- why: the line of a deck's row x
+pub record PrintedWhy (deck : Deck) (x : ℕ) (text : List ℕ) : Type 0 where
+  pub why : Why
+  -- it is so of its run
+  pub because : Because (deckRun deck) x why
+  pub line-is : text ≡ whyLine x why
+
+-- the answer to an input, where the row x is asked
+pub record AnswersWhy (x : ℕ) (input text : List ℕ) : Type 0 where
+  pub is : text ≡ whyProgram x input
+  pub printed : (deck : Deck) → Reads input deck → askedRefusal deck x ≡ 0 → PrintedWhy deck x text

@@ -1,7 +1,7 @@
 // Draws of wild segments: the pairs of a lent list, what is refused of the lists that stored segments come from, and room for their records.
 // Inside the library. After segmentation.rs, "WBS"; the draws are lent.
-use layers::Segment;
 use rows::Position;
+use rows::Segment;
 ghost use mathlib.Core.Path.{_≡_};
 ghost use mathlib.Core.Bool.{false};
 ghost use Prim.Native.Nat.{_+_, _<_};

@@ -1,7 +1,7 @@
 -- A call for the tree, from what is prepared to what is grown. Assumes nothing.
 use mathlib.Core.Path.{_≡_, refl, sym, _∙_, ap}
 use mathlib.Core.List.{List, _++_, map}
-use Prim.Native.Nat.{ℕ, zero, suc, _≤_}
+use Prim.Native.Nat.{ℕ, zero, suc}
 use native.Mathlib.Omega.{arith}
 use lib.ListN.{length, take, drop, length-append}
 use lib.Seq.{drop-append-add, drop-drop}
@@ -9,28 +9,24 @@ use Rattle.scope.specs.Lists.{holding}
 use Rattle.scope.specs.Asked.{Matrix, Source}
 use Rattle.scope.specs.Asked as asked
 use Rattle.scope.specs.Refusals.{unless, toldUnless}
-use Rattle.scope.specs.Sums.{prefixSums}
-use Rattle.scope.specs.Layers.{Segment}
-use Rattle.scope.specs.Draws.{mostStored}
-use Rattle.scope.specs.Tree.{Run, direct, storedRecords, grown, recordsOf, treeOf, nodes, sheet}
-use Rattle.scope.specs.Calls.{sumsOf, sumsRoom, TreeAsked, segmentsOf, runOf, countsOf, treeRefusal, treeCall}
-use Rattle.scope.proofs.Sums.{length-flat}
+use Rattle.scope.specs.Tree.{Run, storedRecords, grown, recordsOf, treeOf, nodes, sheet}
+use Rattle.scope.specs.Calls.{sumsOf, sumsRoom, TreeAsked, runOf, countsOf, treeRefusal, treeCall}
 use Rattle.scope.proofs.Never.{never}
 use Rattle.control.specs.Settings.{settingsOf}
 use Rattle.control.specs.declared.Settings.{Settings}
 use Rattle.control.proofs.Follows.{answer-refused, held-refused, answer-given, held-given}
-use Rattle.change_in_mean.proofs.Room.{sums-are, sums-part}
 use Rattle.stored.specs.Flat.{flatRows, gainsOf}
-use Rattle.stored.proofs.Flat.{rows-append, gains-append, records-told}
-use Rattle.segmentation.specs.Segments.{Slices as RecordSlices}
-use Rattle.scope.proofs.Draws.{records-few}
-use Rattle.binary_segmentation.specs.declared.tree.Asked.{Asked}
+use Rattle.stored.proofs.Flat.{rows-append, gains-append}
+use Rattle.segmentation.specs.Segments.{Slices as RecordSlices, Held}
+use Rattle.verdict.specs.declared.Asked.{Asked}
+use Rattle.verdict.specs.Rules.{Sized}
 use Rattle.binary_segmentation.specs.declared.tree.Counts.{Counts}
 use Rattle.node.specs.Nodes.{toNode}
-use Rattle.binary_segmentation.specs.Growth.{runOver, Lent, stored, Sized, Ready, Holds, Segmented}
+use Rattle.binary_segmentation.specs.Growth.{Lent, Ready, Holds, Segmented}
 use Rattle.prepared.specs.declared.Prepared.the-variants.{Stored, Refused as Unprepared}
 use Rattle.prepared.specs.Answers.{treeAsked, recordsBefore, preparedOf, Prepares}
 use Rattle.prepared.proofs.Clean.{TreeClean, tree-clean}
+use Rattle.prepared.proofs.Stands.{segments, Stands, stands}
 use Rattle.entry_tree.specs.declared.Grown.the-variants.{Counted, Refused}
 use Rattle.entry_tree.specs.Answers.{grownOf}
 use Rattle.entry_tree.specs.Left.{Slices, recordSlices, TreeLeft}
@@ -100,44 +96,32 @@ module _ (x : Matrix) (s : Settings) (forbidden : List ℕ) (source : Source) (b
     clean : TreeClean a
     clean = tree-clean a (sym (told .0))
 
-    front-sums : front .sums ≡ holding (sumsOf x) (before .sums)
-    front-sums = held (λ l. l) (sumsOf x) (before .sums) (said .held .sums-are)
+    -- the sums, and the records
+    fronts : Held (sumsOf x) (storedRecords q) (recordSlices before) front
+    fronts =
+        record {
+          sums-are = held (λ l. l) (sumsOf x) (before .sums) (said .held .sums-are);
+          rows-are = held flatRows (storedRecords q) (before .rows) (said .held .rows-are);
+          gains-are = held gainsOf (storedRecords q) (before .gains) (said .held .gains-are);
+        }
 
-    front-rows : front .rows ≡ holding (flatRows (storedRecords q)) (before .rows)
-    front-rows = held flatRows (storedRecords q) (before .rows) (said .held .rows-are)
-
-    front-gains : front .gains ≡ holding (gainsOf (storedRecords q)) (before .gains)
-    front-gains = held gainsOf (storedRecords q) (before .gains) (said .held .gains-are)
-
-    -- the sums of the run, and no more
-    part : take len (front .sums) ≡ sumsOf x
-    part = sums-part x (length (before .sums)) (clean .sums) (before .sums) (told .1) (front-sums ∙ sym (sums-are x (length (before .sums)) (clean .sums) (before .sums)))
+    standing : Stands x s forbidden source front len count
+    standing = stands x s forbidden source (recordSlices before) front (clean .sums) fronts len count (told .1) (told .2)
 
     pub part-long : length (take len (front .sums)) ≡ len
-    unfolding prefixSums
-    part-long = rw part (length-flat (x .cells) (x .d) _ ∙ omega (arith, told .1, clean .sums .total, clean .sums .shape .long))
+    part-long = standing .part-long
 
     pub sized : Sized shared (x .n) (length (take len (front .sums)))
-    sized = (clean .lengths .1, clean .sums .shape .rows .1, omega (arith, part-long, told .1))
-
-    abbrev segments : List Segment
-    segments = segmentsOf x (settings .shortest) forbidden source
-
-    few : length (storedRecords q) ≤ mostStored source
-    unfolding storedRecords
-    few = records-few (direct q) (x .n) source
-
-    segments-stand : storedRecords (runOver (take len (front .sums)) forbidden shared (x .n) segments) ≡ stored lentOf count
-    segments-stand = rw (part, told .2, front-rows, front-gains) (sym (records-told (storedRecords q) _ _))
+    sized = standing .sized (clean .lengths .1)
 
     pub ready : length (front .rows) ≡ length (before .rows) → length (front .gains) ≡ length (before .gains) → Ready (take len (front .sums)) forbidden shared (x .n) count lentOf
     ready same-rows same-gains = record {
       least = clean .lengths .0;
       nonempty = clean .sums .shape .rows .0;
-      segments = segments;
-      stand = segments-stand;
-      room-rows = omega (arith, told .2, few, clean .records-fit, same-rows);
-      room-gains = omega (arith, told .2, few, clean .records-fit, same-gains);
+      segments = segments x s forbidden source;
+      stand = standing .records;
+      room-rows = omega (arith, standing .few, clean .records-fit, same-rows);
+      room-gains = omega (arith, standing .few, clean .records-fit, same-gains);
       room-nodes = omega (arith, clean .nodes-fit);
       room-cuts = omega (arith, clean .cuts-fit);
     }
@@ -145,14 +129,14 @@ module _ (x : Matrix) (s : Settings) (forbidden : List ℕ) (source : Source) (b
     pub grown-told : (l : Lent) (next : Counts) → Segmented (take len (front .sums)) forbidden shared (x .n) count lentOf l next → TreeLeft x settings (Counted next count) before (after l)
     unfolding treeCall recordsOf
     grown-told l next segmented =
-        let h : Holds q lentOf l next = rw part at (segmented .by segments segments-stand) in
+        let h : Holds q lentOf l next = rw (standing .part) at (segmented .by (segments x s forbidden source) (standing .records)) in
         let made = grown q .made in
         record {
           answer = rw (h .counts, told .2) (ap grownOf (answer-given (told .0) refl (countsOf q)));
           held = record {
             sums-are = said .held .sums-are;
-            rows-are = held-given (told .0) refl flatRows (storedRecords q ++ made) (before .rows) (h .rows ∙ rw (front-rows, rows-append (storedRecords q) made) (told-on (flatRows (storedRecords q)) (flatRows made) (before .rows)));
-            gains-are = held-given (told .0) refl gainsOf (storedRecords q ++ made) (before .gains) (h .gains ∙ rw (front-gains, gains-append (storedRecords q) made) (told-on (gainsOf (storedRecords q)) (gainsOf made) (before .gains)));
+            rows-are = held-given (told .0) refl flatRows (storedRecords q ++ made) (before .rows) (h .rows ∙ rw (fronts .rows-are, rows-append (storedRecords q) made) (told-on (flatRows (storedRecords q)) (flatRows made) (before .rows)));
+            gains-are = held-given (told .0) refl gainsOf (storedRecords q ++ made) (before .gains) (h .gains ∙ rw (fronts .gains-are, gains-append (storedRecords q) made) (told-on (gainsOf (storedRecords q)) (gainsOf made) (before .gains)));
           };
           nodes = held-given (told .0) refl (map toNode) (nodes 0 (treeOf q)) (before .nodes) (h .nodes);
           cuts = held-given (told .0) refl (λ c. c) (sheet (treeOf q)) (before .cuts) (h .cuts);

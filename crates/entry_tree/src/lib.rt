@@ -1,12 +1,12 @@
 // The tree of a run: its node list, its records and its sheet.
 // Entry points: whatever is passed in, each ends with an answer or with the number of a refusal, which has changed no lent memory. None has a `requires`.
 use binary_segmentation::tree;
-use binary_segmentation::tree::Asked;
 use binary_segmentation::tree::Counts;
 use control::Settings;
 use node::Node;
 use prepared::Prepared;
 use rows::Position;
+use verdict::Asked;
 ghost use Rattle.control.specs.Settings.{settingsOf};
 ghost use Rattle.entry_tree.specs.Left.{TreeLeft, PointsLeft};
 

@@ -7,7 +7,7 @@ use Rattle.scope.specs.Rounding.{toF32, ceiling}
 use Rattle.scope.specs.Layers.{layerLength, layerCount, layerStep}
 use Rattle.scope.specs.Layers as scope
 use Rattle.layers.specs.declared.Layer.{Layer}
-use Rattle.layers.specs.declared.Segment.{Segment}
+use Rattle.rows.specs.declared.Segment.{Segment}
 
 -- the code's segment, as the definitions'
 abbrev pub segmentOf : Segment → scope.Segment

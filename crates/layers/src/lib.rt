@@ -1,6 +1,7 @@
 // The layers of seeded segments: how many segments a layer has, and where each starts and stops. Inside the library. After segmentation.rs.
 use rows::Offset;
 use rows::Position;
+use rows::Segment;
 ghost use mathlib.Core.Path.{_≡_};
 ghost use mathlib.Core.Bool.{true, false};
 ghost use Prim.Native.Nat.{_+_, _<_, _≤_, min};
@@ -15,12 +16,6 @@ pub const MOST_LAYERS: usize = 64;
 
 // The least value of a layer: 1/4096.
 const LEAST: f64 = 0.000244140625;
-
-// A segment of the run.
-pub struct Segment {
-    pub start: Position,
-    pub stop: Position,
-}
 
 // A layer of a run of n rows, worked out once for all its segments.
 pub struct Layer {

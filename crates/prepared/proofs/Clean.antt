@@ -1,14 +1,36 @@
--- What holds where a call for the tree is not refused. Assumes nothing.
+-- What holds where a run is not refused, and where a call for its tree is not. Assumes nothing.
 use mathlib.Core.Path.{_≡_}
+use mathlib.Core.Bool.{false}
 use Prim.Native.Nat.{ℕ, _+_, _-_, _/_, _≤_}
 use native.Mathlib.Omega.{arith}
 use borrow.Author.Tests.{ltb-false, le-ltb}
+use Rattle.scope.specs.Asked.{Matrix, Settings}
+use Rattle.scope.specs.Refusals.{firstOf, wrongLayers}
 use Rattle.scope.specs.Draws.{mostStored}
 use Rattle.scope.specs.Tree.{mostNodes}
-use Rattle.scope.specs.Calls.{StoredAsked, storedRefusal, TreeAsked, treeTests, treeRefusal}
+use Rattle.scope.specs.Calls.{StoredAsked, storedRefusal, runTests, TreeAsked, treeTests, treeRefusal}
 use Rattle.change_in_mean.proofs.Room.{SumsClean, sums-clean}
 use Rattle.scope.proofs.Candidates.{not-outside}
 use Rattle.control.proofs.Clean.{passed}
+use Rattle.control.proofs.Sizes.{Matrix as Shape, matrix}
+
+-- no number up to 6 applies to the run
+pub record RunClean (x : Matrix) (s : Settings) : Type 0 where
+  pub shape : Shape 4096 (x .cells) (x .n) (x .d)
+  pub least : (1 ≤ s .shortest .m) × (s .shortest .m ≤ 4096)
+  pub layers : wrongLayers (s .source .layers) ≡ false
+  pub few : s .source .W ≤ 4096
+
+pub run-clean : (x : Matrix) (s : Settings) → firstOf (runTests x s) ≡ 0 → RunClean x s
+run-clean x s e =
+    let p = passed (runTests x s) tt e in
+    let source = p .1 .1 .1 .1 .1 in
+    record {
+      shape = matrix 4096 (x .cells) (x .n) (x .d) (p .0);
+      least = not-outside 4096 (s .shortest .m) (p .1 .0);
+      layers = source .1 .0;
+      few = ltb-false 4096 (s .source .W) (source .1 .1 .1 .0);
+    }
 
 -- B
 abbrev most : TreeAsked → ℕ

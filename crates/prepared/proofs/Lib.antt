@@ -1,2 +1,3 @@
 -- What holds where nothing is refused.
 pub mod Clean
+pub mod Stands

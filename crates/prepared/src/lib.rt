@@ -2,9 +2,38 @@
 // Inside the library.
 use control::Settings;
 ghost use mathlib.Core.Path.{_≡_};
-ghost use Rattle.scope.specs.Calls.{treeRefusal};
+ghost use Rattle.scope.specs.Refusals.{firstOf};
+ghost use Rattle.scope.specs.Calls.{runTests, treeRefusal};
 ghost use Rattle.control.specs.Settings.{settingsOf};
 ghost use Rattle.prepared.specs.Answers.{treeAsked, Prepares};
+
+// The number up to 6 that applies to a run, or 0: what every call that judges segments by a threshold is refused for first.
+pub fn run_refusal(
+    cells: &[f64],
+    n: usize,
+    d: usize,
+    settings: Settings,
+    forbidden: &[usize],
+    layers: &[f64],
+    draws: &[usize],
+    w: usize,
+) -> u32
+    ensures { λ r. ⌜ r ≡ firstOf (runTests (record { cells = now (cells .entry); n = n; d = d }) (settingsOf settings (now (forbidden .entry)) (record { layers = now (layers .entry); draws = now (draws .entry); W = w }))) ⌝ }
+{
+    let shortest = settings.shortest;
+    let sizes = control::sizes_refusal(cells, n, d, shortest);
+    if sizes != 0 {
+        return sizes;
+    }
+    if control::is_nan(settings.threshold) {
+        return 3;
+    }
+    let values = control::values_refusal(cells, forbidden);
+    if values != 0 {
+        return values;
+    }
+    draws::source_refusal(layers, draws, w)
+}
 
 // The number that applies to a call for the tree, or 0: B nodes and (B-1)/2 cuts at most, and a record for each node beside those of the
 // stored segments.
@@ -24,25 +53,14 @@ pub fn tree_refusal(
 ) -> u32
     ensures { λ r. ⌜ r ≡ treeRefusal (record { matrix = record { cells = now (cells .entry); n = n; d = d }; settings = settingsOf settings (now (forbidden .entry)) (record { layers = now (layers .entry); draws = now (draws .entry); W = w }); room = record { sums = sums; records = records; nodes = nodes; cuts = cuts } }) ⌝ }
 {
-    let shortest = settings.shortest;
-    let sizes = control::sizes_refusal(cells, n, d, shortest);
-    if sizes != 0 {
-        return sizes;
-    }
-    if control::is_nan(settings.threshold) {
-        return 3;
-    }
-    let values = control::values_refusal(cells, forbidden);
-    if values != 0 {
-        return values;
-    }
-    let source = draws::source_refusal(layers, draws, w);
-    if source != 0 {
-        return source;
+    let run = run_refusal(cells, n, d, settings, forbidden, layers, draws, w);
+    if run != 0 {
+        return run;
     }
     if sums < control::sums_len(n, d) {
         return 7;
     }
+    let shortest = settings.shortest;
     let most = control::most_nodes(n, shortest);
     if records < draws::most_stored(layers, draws, w) + most {
         return 7;

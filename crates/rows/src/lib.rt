@@ -1,4 +1,4 @@
-// A row's position in the run and its offset in a segment: two counts that are never handed for one another.
+// A row's position in the run and its offset in a segment, two counts that are never handed for one another.
 // They are converted only through the segment's start. After document 01, "separate counts". Laws on lists that loops share: proofs/Stored.antt, proofs/Pairs.antt.
 ghost use mathlib.Core.Path.{_≡_};
 ghost use Prim.Native.Nat.{_+_, _-_, _<_, _≤_, _^_};
@@ -9,6 +9,12 @@ pub struct Position(pub usize);
 
 // A row's offset in a segment.
 pub struct Offset(pub usize);
+
+// A segment of the run: the rows from start to the one before stop.
+pub struct Segment {
+    pub start: Position,
+    pub stop: Position,
+}
 
 impl Position {
     // Where this row stands in the segment that begins at `start`.

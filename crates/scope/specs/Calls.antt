@@ -201,17 +201,16 @@ pub record TreeAsked : Type 0 where
   pub settings : Settings
   pub room : Room
 
+-- what is refused of a run, up to 6
+abbrev pub runTests : Matrix → Settings → List Test
+runTests x s = no1 mostRows x ∷ no2 (s .shortest) ∷ no3 (s .threshold) ∷ no4 (x .cells) ∷ no5 (s .forbidden) ∷ sourceTests (s .source)
+
 -- up to 7
 abbrev pub treeRoomTests : TreeAsked → List Test
 treeRoomTests a =
     let s = a .settings in
     let most = mostNodes (a .matrix .n) (s .shortest) in
-    no1 mostRows (a .matrix)
-    ∷ no2 (s .shortest)
-    ∷ no3 (s .threshold)
-    ∷ no4 (a .matrix .cells)
-    ∷ no5 (s .forbidden)
-    ∷ sourceTests (s .source)
+    runTests (a .matrix) s
     ++ (no7 (sumsRoom (a .matrix)) (a .room .sums)
     ∷ no7 (mostStored (s .source) + most) (a .room .records)
     ∷ no7 most (a .room .nodes)

@@ -1,4 +1,4 @@
--- Document 01, section by section, in its order; and beside it what document 02 adds: the closed end and draws.
+-- Document 01, section by section, in its order; and beside it what document 02 adds: the closed end, draws, and why a row is not on the sheet.
 pub mod Floats
 pub mod Lists
 pub mod Asked
@@ -20,7 +20,9 @@ pub mod Curves
 pub mod Permutations
 pub mod Sorted
 pub mod Calls
+pub mod Why
 pub mod Numbers
 pub mod Text
 pub mod Program
+pub mod WhyText
 pub mod Marked

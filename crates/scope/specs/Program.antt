@@ -170,10 +170,10 @@ cutLines (r ∷ rs) = cutLine r ++ cutLines rs
 unfoldable pub sheetText : Tree → List ℕ
 sheetText t = line (bytes "cuts" ∷ decimal (length (cuts t)) ∷ []) ++ cutLines (cuts t) ++ line (bytes "nodes" ∷ decimal (nodeCount t) ∷ [])
 
--- "a refusal writes `refused` and the number"
-abbrev pub judgedText : ℕ → Tree → List ℕ
-judgedText zero t = sheetText t
-judgedText (suc k) t = line (bytes "refused" ∷ decimal (suc k) ∷ [])
+-- "a refusal writes `refused` and the number"; else the text
+abbrev pub orRefused : ℕ → List ℕ → List ℕ
+orRefused zero text = text
+orRefused (suc k) text = line (bytes "refused" ∷ decimal (suc k) ∷ [])
 
 abbrev pub deckRun : Deck → Run
 deckRun deck = runOf (deckMatrix deck) (deckSettings deck)
@@ -182,14 +182,14 @@ abbrev pub deckTree : Deck → Tree
 deckTree deck = treeOf (deckRun deck)
 
 abbrev pub deckText : Deck → List ℕ
-deckText deck = judgedText (deckRefusal deck) (deckTree deck)
+deckText deck = orRefused (deckRefusal deck) (sheetText (deckTree deck))
 
--- "The first malformed line writes `bad` and its number from 1, before anything else is judged"
-abbrev pub readingText : Reading → List ℕ
-readingText (bad k) = line (bytes "bad" ∷ decimal k ∷ [])
-readingText begun = []
-readingText (barring deck) = deckText deck
-readingText (feeding deck) = deckText deck
+-- "The first malformed line writes `bad` and its number from 1, before anything else is judged"; else the deck's text
+abbrev pub readingText : (Deck → List ℕ) → Reading → List ℕ
+readingText text (bad k) = line (bytes "bad" ∷ decimal k ∷ [])
+readingText text begun = []
+readingText text (barring deck) = text deck
+readingText text (feeding deck) = text deck
 
 unfoldable pub program : List ℕ → List ℕ
-program input = readingText (readInput input)
+program input = readingText deckText (readInput input)

@@ -2,8 +2,8 @@
 // After segmentation.rs, "SBS" and "WBS"; neither layers nor draws means "BS".
 use control::Shortest;
 use layers::Layer;
-use layers::Segment;
 use optimizer::optimizer_result::Searched;
+use rows::Segment;
 use stored::records;
 ghost use mathlib.Core.Path.{_≡_};
 ghost use mathlib.Core.Bool.{false};

@@ -30,7 +30,7 @@ use Rattle.lent.proofs.Calls.{Known, unasked, lent-on, calls}
 use Rattle.lent.proofs.Meets.{Done, finishes, meets}
 use Rattle.lent.proofs.Clauses.{unasked-meets}
 use Rattle.node.specs.declared.Node.{Node}
-use Rattle.binary_segmentation.specs.declared.tree.Asked.{Asked}
+use Rattle.verdict.specs.declared.Asked.{Asked}
 use denote.Ref.{now}
 use Rattle.scope.specs.Asked.{Matrix, Source}
 use Rattle.control.specs.Settings.{settingsOf}

@@ -30,12 +30,14 @@ use Rattle.rows.specs.declared.Position.{Position}
 use Rattle.optimizer.specs.declared.optimizer_result.GainRecord.{GainRecord}
 use Rattle.scope.specs.Tree.{Run}
 use Rattle.node.specs.declared.Node.{Node}
-use Rattle.binary_segmentation.specs.declared.tree.Asked.{Asked}
+use Rattle.verdict.specs.declared.Asked.{Asked}
+use Rattle.verdict.specs.Rules.{over}
+use Rattle.verdict.proofs.Sized.{sized-within}
 use Rattle.binary_segmentation.specs.declared.tree.Counts.{Counts}
 use Rattle.binary_segmentation.specs.declared.tree.Judged.{Judged}
 use Rattle.binary_segmentation.specs.declared.tree.Judged.the-variants.{Uncut, Cut}
-use Rattle.binary_segmentation.specs.Growth.{over, Lent, Judging, Growing, Fits}
-use Rattle.binary_segmentation.proofs.Growth.{sized-left, room-here, leaf-grown, split-within, fits-left, fits-cut, fits-node, fits-right, cut-grown}
+use Rattle.binary_segmentation.specs.Growth.{Lent, Judging, Growing, Fits}
+use Rattle.binary_segmentation.proofs.Growth.{room-here, leaf-grown, split-within, fits-left, fits-cut, fits-node, fits-right, cut-grown}
 use Rattle.node.proofs.Data.{position, gain-record, split-fits}
 use Rattle.node.proofs.Deals.{putting, making}
 use Rattle.binary_segmentation.proofs.Data.{counts, judged, uncut-fits, cut-fits, place-fits}
@@ -181,7 +183,7 @@ module _ {M : Type 1} (𝓤 : URA M) (H : Heap 𝓤) (A : Atoms 𝓤) (W : Given
             cases ! refl refl refl refl ▸ binds ! refl refl refl refl refl ▸ binds ! refl refl refl refl refl ▸ copies ! refl refl ▸
             reborrows ! refl refl refl refl refl ▸ reborrows ! refl refl refl refl refl ▸ reborrows ! refl refl refl refl refl ▸ reborrows ! refl refl refl refl refl ▸
             calls 𝓤 H A W growing args (part-good start split l₁ next start-fits split-is (same-rows, (same-gains, (refl, (refl, tt)))) next-fits)
-            (sized-left s (split .0) (stop .0) _ (within .1) (asked .0), fits-left q (start .0) (stop .0) at l fits c next j) ! 0 refl fm (self args (let w = within in omega arith)) refl refl refl (λ n₂ ws ret.
+            (sized-within s (split .0) (stop .0) _ (let w = within in omega arith) (asked .0), fits-left q (start .0) (stop .0) at l fits c next j) ! 0 refl fm (self args (let w = within in omega arith)) refl refl refl (λ n₂ ws ret.
             right n₂ (lists ws) (ret .long .0 ∙ same-rows, (ret .long .1 .0 ∙ same-gains, ret .long .1 .1)) (ret .is) (ret .said))
 
     chosen : (v : Judged) (ws : Lasts (judging .ks) judged-of) → Returned 𝓤 H A W judging judged-of v ws → Goes (record { rows = ws .1 .1 .1 .1 .1 .0; gains = ws .1 .1 .1 .1 .1 .1 .0; nodes = nodes .list; cuts = cuts .list }) (at-judged v) pieces.s-6

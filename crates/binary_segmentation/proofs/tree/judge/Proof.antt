@@ -1,47 +1,36 @@
--- `judge` meets its contract: by what the search finds, and by the test of the choice.
-use mathlib.Core.Path.{sym, _∙_, ap}
+-- `judge` meets its contract: by the verdict, and the record that is appended.
 use denote.Ref.{now}
 use borrow.Author.Needs.{needs}
-use Rattle.scope.specs.Grid.{best}
-use Rattle.optimizer.specs.Records.{toRecord}
-use Rattle.binary_segmentation.specs.Growth.{over}
-use Rattle.binary_segmentation.proofs.Judging.{direct-some, direct-inside, direct-none, judged-none, judged-cut, judged-uncut}
+use Rattle.verdict.specs.Rules.{over}
+use Rattle.binary_segmentation.proofs.Judging.{judged-none, judged-cut, judged-uncut}
 use Rattle.binary_segmentation.proofs.tree.judge.Statement.{statement}
 use Rattle.binary_segmentation.proofs.tree.judge.Tie as tie
+
+behind-requires-2 : tie.Need-behind-requires-2
+behind-requires-2 c κs = let s = c .before .before .before .before .before .before .before .before .before .before .before .before .before .before .before .before .before .before in (s .pre .2, s .pre .3)
+
+behind-requires-3 : tie.Need-behind-requires-3
+behind-requires-3 c κs = let s = c .before .before .before .before .before .before .before .before .before .before .before .before .before .before .before .before .before in (s .pre .2, s .pre .3)
 
 returns : tie.Need-returns
 returns c =
     let s = c .before .before .before .before .before .before .before .before .before .before .before .args in
-    let q = over (now (s .sums)) (now (s .forbidden)) (s .asked) in
     rw (c .before .without-choice .ensures, c .behind .ensures)
-    (judged-none q (s .start .0) (s .stop .0) (s .counts) (now (s .rows)) (now (s .gains)) (direct-none q (s .start .0) (s .stop .0) _ (c .before .before .before .before .search-segment .ensures) _ (c .before .before .enum-told .given .1)))
-
-behind-requires-2 : tie.Need-behind-requires-2
-behind-requires-2 c κs = let s = c .before .before .before .before .before .before .before .before .before .before .before .before .before .before .before .before .before .before .before .before in (s .pre .2, s .pre .3)
+    (judged-none (over (now (s .sums)) (now (s .forbidden)) (s .asked)) (s .start .0) (s .stop .0) (s .counts) (now (s .rows)) (now (s .gains)) (rw (c .before .before .enum-told .given .1) at (c .before .before .before .before .judge .ensures)))
 
 returns-2 : tie.Need-returns-2
 returns-2 c =
-    let s = c .before .before .before .before .before .before .before .before .before .before .before .before .before .before .before .before .before .before .before .before .before .before .before .args in
-    let q = over (now (s .sums)) (now (s .forbidden)) (s .asked) in
-    let put = c .before .before .before .before .before .before .before .put-record .ensures in
-    let chosen = c .before .before .before .before .before .before .before .before .before .before .choose in
-    let found = c .before .before .before .before .before .before .before .before .before .before .before .before .before .before .before .before .search-segment .ensures in
-    let is = c .before .before .before .before .before .before .before .before .before .before .before .before .before .before .direct .given .1 in
-    rw (c .before .before .behind2 .ensures)
-    (judged-cut q (s .start .0) (s .stop .0) (s .counts) (now (s .rows)) (now (s .gains)) _ (direct-some q (s .start .0) (s .stop .0) _ found _ is)
-    (put .0) (put .1) (toRecord (chosen .result)) (chosen .ensures ∙ ap (best _) (direct-inside q (s .start .0) (s .stop .0) _ found _ is _)) (sym (c .before .model-selection .ensures) ∙ c .if1 .taken))
+    let s = c .before .before .before .before .before .before .before .before .before .before .before .before .before .before .before .before .before .before .before .args in
+    let put = c .before .before .before .before .before .before .put-record .ensures in
+    rw (c .before .uncut .ensures, c .behind2 .ensures)
+    (judged-uncut (over (now (s .sums)) (now (s .forbidden)) (s .asked)) (s .start .0) (s .stop .0) (s .counts) (now (s .rows)) (now (s .gains)) _ _ (put .0) (put .1) (rw (c .before .before .before .before .before .before .before .before .before .before .direct .given .1) at (c .before .before .before .before .before .before .before .before .before .before .before .before .judge .ensures)))
 
 returns-3 : tie.Need-returns-3
 returns-3 c =
-    let s = c .before .before .before .before .before .before .before .before .before .before .before .before .before .before .before .before .before .before .before .before .before .before .before .before .args in
-    let q = over (now (s .sums)) (now (s .forbidden)) (s .asked) in
-    let put = c .before .before .before .before .before .before .before .before .put-record .ensures in
-    let chosen = c .before .before .before .before .before .before .before .before .before .before .before .choose in
-    let found = c .before .before .before .before .before .before .before .before .before .before .before .before .before .before .before .before .before .search-segment .ensures in
-    let is = c .before .before .before .before .before .before .before .before .before .before .before .before .before .before .before .direct .given .1 in
-    rw (c .uncut .ensures, c .before .before .before .behind2 .ensures)
-    (judged-uncut q (s .start .0) (s .stop .0) (s .counts) (now (s .rows)) (now (s .gains)) _ (direct-some q (s .start .0) (s .stop .0) _ found _ is)
-    (put .0) (put .1) (toRecord (chosen .result)) (chosen .ensures ∙ ap (best _) (direct-inside q (s .start .0) (s .stop .0) _ found _ is _)) (sym (c .before .before .model-selection .ensures) ∙ c .before .if1 .left))
+    let s = c .before .before .before .before .before .before .before .before .before .before .before .before .before .before .before .before .before .before .args in
+    let put = c .before .before .before .before .before .put-record2 .ensures in
+    rw (c .behind3 .ensures)
+    (judged-cut (over (now (s .sums)) (now (s .forbidden)) (s .asked)) (s .start .0) (s .stop .0) (s .counts) (now (s .rows)) (now (s .gains)) _ _ (put .0) (put .1) (rw (c .before .before .before .before .before .before .before .before .before .direct2 .given .1) at (c .before .before .before .before .before .before .before .before .before .before .before .judge .ensures)))
 
 pub judge-spec : {M : Type 1} → statement M
 judge-spec =
@@ -49,18 +38,21 @@ judge-spec =
     (tie.spec
     (λ c κs. search needs)
     (λ c. search needs)
+    (λ c κs. search needs)
+    (λ c κs. search needs)
     (λ c. search needs)
-    (λ c κs. search needs)
-    (λ c κs. search needs)
-    returns
     (λ c κs. search needs)
     (λ c κs. search needs)
     behind-requires-2
+    (λ c. search needs)
     (λ c κs. search needs)
+    behind-requires-3
+    (λ c. search needs)
+    (λ c. search needs)
+    returns
     (λ c. search needs)
     (λ c. search needs)
     returns-2
-    (λ c κs. search needs)
     (λ c. search needs)
     (λ c. search needs)
     returns-3)

@@ -1,0 +1,116 @@
+-- `why` meets its contract: a number, and nothing is told; or what the walk tells, with the sums and the stored segments' records left.
+use mathlib.Core.Path.{_≡_, sym, _∙_}
+use native.Mathlib.Omega.{arith}
+use denote.Ref.{now}
+use lib.ListN.{length}
+use Rattle.scope.specs.Asked.{Matrix, Source}
+use Rattle.scope.specs.Asked as asked
+use Rattle.scope.specs.Tree.{storedRecords}
+use Rattle.scope.specs.Calls.{sumsOf, runOf}
+use Rattle.scope.specs.Why.{WhyAsked, whyRefusal}
+use Rattle.control.specs.Settings.{settingsOf}
+use Rattle.segmentation.specs.Segments.{Slices, Held}
+use Rattle.prepared.proofs.Stands.{segments, Stands, stands}
+use Rattle.entry_why.specs.Left.{whyAsked}
+use Rattle.entry_why.proofs.Clean.{WhyClean, why-clean, why-segments}
+use Rattle.entry_why.proofs.Told.{refused-told, told}
+use borrow.Author.Needs.{needs}
+use Rattle.entry_why.proofs.why.Statement.{statement}
+use Rattle.entry_why.proofs.why.Tie as tie
+
+abbrev lent : tie.Start → Slices
+lent s = record { sums = now (s .args .sums); rows = now (s .args .rows); gains = now (s .args .gains) }
+
+abbrev matrix : tie.Start → Matrix
+matrix s = record { cells = now (s .args .cells); n = s .args .n; d = s .args .d }
+
+abbrev source : tie.Start → Source
+source s = record { layers = now (s .args .layers); draws = now (s .args .draws); W = s .args .w }
+
+abbrev settings : tie.Start → asked.Settings
+settings s = settingsOf (s .args .settings) (now (s .args .forbidden)) (source s)
+
+abbrev asks : tie.Start → WhyAsked
+asks s = whyAsked (matrix s) (settings s) (s .args .row .0) (lent s)
+
+-- the number is that of what is asked
+number : (c : tie.After-why-refusal) → c .why-refusal .result ≡ whyRefusal (asks (c .before .before .before .before .before .before .before .before .before))
+number c = rw (← c .before .record-room .ensures) (c .why-refusal .ensures)
+
+none-refused : (c : tie.Else1) → whyRefusal (asks (c .before .before .before .before .before .before .before .before .before .before)) ≡ 0
+none-refused c = sym (number (c .before)) ∙ c .if1 .left
+
+clean : (c : tie.Else1) → WhyClean (asks (c .before .before .before .before .before .before .before .before .before .before))
+clean c = why-clean (asks (c .before .before .before .before .before .before .before .before .before .before)) (none-refused c)
+
+returns : tie.Need-returns
+returns c = let s = c .before .before .before .before .before .before .before .before .before .before in refused-told (matrix s) (settings s) (s .args .row .0) (lent s) _ (number (c .before)) (c .if1 .taken)
+
+store-segments-requires : tie.Need-store-segments-requires
+store-segments-requires c κs = why-segments (asks (c .before .before .before .before .before .before .before .before .before .before .before .before .before .before)) (none-refused (c .before .before .before .before))
+
+sums-len-requires : tie.Need-sums-len-requires
+sums-len-requires c κs = let w = clean (c .before .before .before .before .before .before .before .before .before .before .before) .sums .shape in (w .rows .1, w .columns .1)
+
+-- ---- once the sums and the records stand
+abbrev front : tie.After-sums-len → Slices
+front c = let l = c .before .before .before .before .before .before .before .store-segments .last .1 .1 .1 .1 .1 .1 .1 .1 in record { sums = l .0; rows = l .1 .0; gains = l .1 .1 .0 }
+
+held : (c : tie.After-sums-len) → Held (sumsOf (matrix (c .before .before .before .before .before .before .before .before .before .before .before .before .before .before .before .before .before .before .before .before .before .before))) (storedRecords (runOf (matrix (c .before .before .before .before .before .before .before .before .before .before .before .before .before .before .before .before .before .before .before .before .before .before)) (settings (c .before .before .before .before .before .before .before .before .before .before .before .before .before .before .before .before .before .before .before .before .before .before)))) (lent (c .before .before .before .before .before .before .before .before .before .before .before .before .before .before .before .before .before .before .before .before .before .before)) (front c)
+unfolding storedRecords
+held c = c .before .before .before .before .before .before .before .store-segments .ensures .held
+
+-- how many
+counted : (c : tie.After-sums-len) → c .before .before .before .before .before .before .before .store-segments .result ≡ length (storedRecords (runOf (matrix (c .before .before .before .before .before .before .before .before .before .before .before .before .before .before .before .before .before .before .before .before .before .before)) (settings (c .before .before .before .before .before .before .before .before .before .before .before .before .before .before .before .before .before .before .before .before .before .before))))
+unfolding storedRecords
+counted c = c .before .before .before .before .before .before .before .store-segments .ensures .count
+
+standing : (c : tie.After-sums-len) → let s = c .before .before .before .before .before .before .before .before .before .before .before .before .before .before .before .before .before .before .before .before .before .before in Stands (matrix s) (s .args .settings) (now (s .args .forbidden)) (source s) (front c) (c .sums-len .result) (c .before .before .before .before .before .before .before .store-segments .result)
+standing c = let s = c .before .before .before .before .before .before .before .before .before .before .before .before .before .before .before .before .before .before .before .before .before .before in stands (matrix s) (s .args .settings) (now (s .args .forbidden)) (source s) (lent s) (front c) (clean (c .before .before .before .before .before .before .before .before .before .before .before .before) .sums) (held c) _ _ (c .sums-len .ensures) (counted c)
+
+slice-reshare-prefix-explain : tie.Need-slice-reshare-prefix-explain
+slice-reshare-prefix-explain c = omega (arith, clean (c .before .before .before .before .before .before .before .before .before .before .before .before) .sums .fits, c .sums-len .ensures)
+
+slice-aggregate-explain : tie.Need-slice-aggregate-explain
+slice-aggregate-explain c = sym (standing (c .before) .part-long)
+
+explain-requires : tie.Need-explain-requires
+explain-requires c κs =
+    let s = c .before .before .before .before .before .before .before .before .before .before .before .before .before .before .before .before .before .before .before .before .before .before .before .before .before in
+    let w = clean (c .before .before .before .before .before .before .before .before .before .before .before .before .before .before .before) in
+    let st = standing (c .before .before .before) in
+    (
+      st .sized (w .lengths .1),
+      w .row-within,
+      record {
+        least = w .lengths .0;
+        segments = segments (matrix s) (s .args .settings) (now (s .args .forbidden)) (source s);
+        stand = st .records;
+        room-rows = omega (arith, st .few, w .records-fit);
+        room-gains = omega (arith, st .few, w .records-fit);
+      },
+    )
+
+returns-2 : tie.Need-returns-2
+returns-2 c =
+    let s = c .before .before .before .before .before .before .before .before .before .before .before .before .before .before .before .before .before .before .before .before .before .before .before .before .before .before in
+    let st = standing (c .before .before .before .before) in
+    let is = c .explain .ensures (segments (matrix s) (s .args .settings) (now (s .args .forbidden)) (source s)) (st .records) in
+    told (matrix s) (settings s) (s .args .row .0) (lent s) _ (number (c .before .before .before .before .before .before .before .before .before .before .before .before .before .before .before .before .before)) (c .before .before .before .before .before .before .before .before .before .before .before .before .before .before .before .before .if1 .left) (front (c .before .before .before .before)) (held (c .before .before .before .before)) _ (rw (st .part) at is)
+
+pub why-spec : {M : Type 1} → statement M
+why-spec =
+    tie.close
+    (tie.spec
+    (λ c κs. search needs)
+    (λ c κs. search needs)
+    returns
+    store-segments-requires
+    sums-len-requires
+    slice-reshare-prefix-explain
+    slice-aggregate-explain
+    explain-requires
+    (λ c. search needs)
+    (λ c. search needs)
+    (λ c. search needs)
+    returns-2)

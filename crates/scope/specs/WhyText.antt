@@ -1,0 +1,41 @@
+-- The program that answers why: the row that it is asked, the whole input's bytes, and the whole output's bytes.
+use mathlib.Core.List.{List, [], _∷_, _++_}
+use mathlib.Core.Option.{Option, none}
+use Prim.Native.Nat.{ℕ}
+use lib.Ieee.{binary64, toBits}
+use Rattle.scope.specs.Refusals.{Test, firstOf}
+use Rattle.scope.specs.Layers.{Segment}
+use Rattle.scope.specs.Text.{bytes, number, decimal, hexOf, line}
+use Rattle.scope.specs.Program.{Deck, deckTests, deckRun, orRefused, readingText, readInput}
+use Rattle.scope.specs.Why.{Why, cut, tooNear, barred, noNumber, notAbove, whyOf, no8-row}
+
+-- the arguments: "exactly one", "a number of the deck's grammar"
+abbrev pub rowAsked : List (List ℕ) → Option ℕ
+rowAsked [] = none
+rowAsked (a ∷ []) = number a
+rowAsked (a ∷ b ∷ more) = none
+
+-- the segment's ends, the line's last fields
+abbrev pub ends : Segment → List (List ℕ)
+ends g = decimal (g .start) ∷ decimal (g .stop) ∷ []
+
+-- "`cut ROW START STOP`, `near ROW START STOP`, `barred ROW A B START STOP`, `nan ROW START STOP`, `below ROW GAINBITS START STOP`"
+abbrev pub whyLine : ℕ → Why → List ℕ
+whyLine x (cut g) = line (bytes "cut" ∷ decimal x ∷ ends g)
+whyLine x (tooNear g) = line (bytes "near" ∷ decimal x ∷ ends g)
+whyLine x (barred a b g) = line (bytes "barred" ∷ decimal x ∷ decimal a ∷ decimal b ∷ ends g)
+whyLine x (noNumber g) = line (bytes "nan" ∷ decimal x ∷ ends g)
+whyLine x (notAbove gain g) = line (bytes "below" ∷ decimal x ∷ hexOf 16 (toBits binary64 gain) ∷ ends g)
+
+-- "`refused N`, `bad N` as the sheet's program (a row at or past n: `refused 8`)"
+abbrev pub askedTests : Deck → ℕ → List Test
+askedTests deck x = deckTests deck ++ (no8-row (deck .n) x ∷ [])
+
+unfoldable pub askedRefusal : Deck → ℕ → ℕ
+askedRefusal deck x = firstOf (askedTests deck x)
+
+abbrev pub askedText : ℕ → Deck → List ℕ
+askedText x deck = orRefused (askedRefusal deck x) (whyLine x (whyOf (deckRun deck) x))
+
+unfoldable pub whyProgram : ℕ → List ℕ → List ℕ
+whyProgram x input = readingText (askedText x) (readInput input)
