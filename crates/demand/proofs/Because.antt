@@ -14,7 +14,7 @@ use Rattle.scope.specs.Allowed as allowed
 use Rattle.scope.specs.Layers.{Segment}
 use Rattle.scope.specs.Tree.{Run, Tree, treeOf}
 use Rattle.scope.specs.ClosedEnd.{Free}
-use Rattle.scope.specs.Why.{Place, atCut, uncutIn, placeOf, isNear, Barring, by, free, firstBarring, Why, tooNear, barred, noNumber, notAbove, byBarring, reasonIn, byPlace, whyOf}
+use Rattle.scope.specs.Why.{Place, atCut, uncutIn, placeOf, isNear, Barring, by, free, firstBarring, Why, tooNear, barred, noNumber, notAbove, firstReason, reasonIn, byPlace, whyOf}
 use Rattle.scope.specs.Candidates.{isBarred}
 use Rattle.scope.proofs.Never.{never}
 use Rattle.scope.proofs.Order.{both}
@@ -133,14 +133,14 @@ module _ (q : Run) (x : ℕ) (g : Segment) where
     gain-so n f true e = (held, n, f, e)
     gain-so n f false e = (held, n, f, refl, e, not-over (held .uncut) (allowed-row n f))
 
-    barring-so : (Near (q .shortest) g x → ⊥) → (b : Barring) → firstBarring (q .forbidden) x ≡ b → Because q x (byBarring b own-gain g)
+    barring-so : (Near (q .shortest) g x → ⊥) → (b : Barring) → firstBarring (q .forbidden) x ≡ b → Because q x (firstReason false b own-gain g)
     barring-so n (by a b) e = (held, n, first-so x a b (q .forbidden) e)
     barring-so n free e = gain-so n (free-of (q .forbidden) x (unbarred x (q .forbidden) e)) (isNan own-gain) refl
 
     reason-so : Because q x (reasonIn q x g)
     reason-so = go (isNear (q .shortest) g x) refl
       where
-        go : (b : Bool) → isNear (q .shortest) g x ≡ b → Because q x (cond b (tooNear g) (byBarring (firstBarring (q .forbidden) x) own-gain g))
+        go : (b : Bool) → isNear (q .shortest) g x ≡ b → Because q x (firstReason b (firstBarring (q .forbidden) x) own-gain g)
         go true e = (held, near-so (q .shortest) g x e)
         go false e = barring-so (near-not (q .shortest) g x e) (firstBarring (q .forbidden) x) refl
 

@@ -6,7 +6,7 @@ pub mod Grows
 pub mod Told
 pub mod AllZero
 pub mod Levels
-pub mod ClosedEnd
 pub mod Demand
 pub mod Because
+pub mod ClosedEnd
 pub mod Printed

@@ -9,7 +9,7 @@ use lib.Dec.{ltb, leb}
 use lib.ListN.{length, getD, drop, length-drop}
 use lib.Ieee.{Float}
 use Rattle.scope.specs.Layers.{Segment}
-use Rattle.scope.specs.Why.{Barring, by, free, firstBarring, byGain, byBarring}
+use Rattle.scope.specs.Why.{Barring, by, free, firstBarring, byGain, firstReason}
 use Rattle.scope.proofs.Never.{never}
 use Rattle.rows.proofs.Pairs.{pair-next}
 use Rattle.reasons.specs.declared.Why.the-variants as why
@@ -42,16 +42,16 @@ at-least a b = go (ltb b a) refl
 
 -- ---- what is told by the pair that bars, and where there is none
 module _ (v : Barring) (gain : Float) (g : Segment) where
-  pub told-barred : (a b : ℕ) → barring.By a b ≡ fromBarring v → why.Barred a b (fromSegment g) ≡ fromWhy (byBarring v gain g)
+  pub told-barred : (a b : ℕ) → barring.By a b ≡ fromBarring v → why.Barred a b (fromSegment g) ≡ fromWhy (firstReason false v gain g)
   told-barred a b e = go v e
     where
-      go : (v : Barring) → barring.By a b ≡ fromBarring v → why.Barred a b (fromSegment g) ≡ fromWhy (byBarring v gain g)
+      go : (v : Barring) → barring.By a b ≡ fromBarring v → why.Barred a b (fromSegment g) ≡ fromWhy (firstReason false v gain g)
       go (by c d) e = let p : a ≡ c = cc in let r : b ≡ d = cc in rw (p, r)
       go free e = never (cc)
 
-  pub told-free : barring.Free ≡ fromBarring v → fromWhy (byGain gain g) ≡ fromWhy (byBarring v gain g)
+  pub told-free : barring.Free ≡ fromBarring v → fromWhy (byGain gain g) ≡ fromWhy (firstReason false v gain g)
   told-free e = go v e
     where
-      go : (v : Barring) → barring.Free ≡ fromBarring v → fromWhy (byGain gain g) ≡ fromWhy (byBarring v gain g)
+      go : (v : Barring) → barring.Free ≡ fromBarring v → fromWhy (byGain gain g) ≡ fromWhy (firstReason false v gain g)
       go (by c d) e = never (cc)
       go free e = refl

@@ -13,6 +13,7 @@ pub mod Greatest
 pub mod Stored
 pub mod Draws
 pub mod Chosen
+pub mod Why
 pub mod Signs
 pub mod Finite
 pub mod Negated

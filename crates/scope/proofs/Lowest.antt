@@ -11,7 +11,9 @@ use lib.Ieee.{Float}
 use lib.ListN.{length, getD}
 use Rattle.scope.specs.Refusals.{Test, test, firstOf, given, unless}
 use Rattle.scope.specs.Calls.{lengthTests, CandidatesAsked, candidatesTests, GainAsked, gainTests, SearchAsked, searchTests, StoredAsked, storedTests, TreeAsked, treeTests, countedTests, OrderingAsked, orderingTests, PredictAsked, predictTests, CurveAsked, curveTests, PickAsked, pickTests, GuessesAsked, guessesTests, PermutationAsked, permutationTests}
+use Rattle.scope.specs.Why.{WhyAsked, whyTests}
 use Rattle.scope.specs.Program.{Deck, deckTests}
+use Rattle.scope.specs.WhyText.{askedTests}
 use Rattle.scope.proofs.Never.{never}
 use Rattle.scope.proofs.Members.{first-of, second-of, at-in}
 
@@ -87,6 +89,7 @@ pub record InOrder : Type 0 where
   pub stored : (a : StoredAsked) → inOrder 1 (storedTests a) ≡ true
   pub tree : (a : TreeAsked) → inOrder 1 (treeTests a) ≡ true
   pub counted : (a : TreeAsked) (counts : ℕ) → inOrder 1 (countedTests a counts) ≡ true
+  pub why : (a : WhyAsked) → inOrder 1 (whyTests a) ≡ true
   pub ordering : (a : OrderingAsked) → inOrder 1 (orderingTests a) ≡ true
   pub predict : (a : PredictAsked) → inOrder 1 (predictTests a) ≡ true
   pub curve : (a : CurveAsked) → inOrder 1 (curveTests a) ≡ true
@@ -94,6 +97,7 @@ pub record InOrder : Type 0 where
   pub guesses : (a : GuessesAsked) → inOrder 1 (guessesTests a) ≡ true
   pub permutation : (a : PermutationAsked) → inOrder 1 (permutationTests a) ≡ true
   pub deck : (deck : Deck) → inOrder 1 (deckTests deck) ≡ true
+  pub asked : (deck : Deck) (x : ℕ) → inOrder 1 (askedTests deck x) ≡ true
 
 pub all-in-order : InOrder
 all-in-order =
@@ -105,6 +109,7 @@ all-in-order =
       stored = λ a. refl;
       tree = λ a. refl;
       counted = λ a counts. refl;
+      why = λ a. refl;
       ordering = λ a. refl;
       predict = λ a. refl;
       curve = λ a. refl;
@@ -112,4 +117,5 @@ all-in-order =
       guesses = λ a. refl;
       permutation = λ a. refl;
       deck = λ deck. refl;
+      asked = λ deck x. refl;
     }

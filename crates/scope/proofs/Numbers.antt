@@ -20,6 +20,8 @@ use Rattle.scope.specs.Neighbours.{distances, countOf, predictions}
 use Rattle.scope.specs.Curves.{picked}
 use Rattle.scope.specs.Permutations.{wrongPermutations}
 use Rattle.scope.specs.Calls.{Split, splitOf, sumsOf, gainIn, gainTests, gainRefusal, gainCall, searchTests, searchRefusal, searchCall, storedTests, storedRefusal, searchIn, segmentsOf, storedOf, storedCall, treeTests, treeRefusal, runOf, treeCall, orderingTests, orderingRefusal, lastDistances, orderingCall, PredictAsked, predictTests, predictRefusal, predictionsOf, predictCall, PickAsked, pickTests, pickAnswer, Tested, PermutationAsked, within, permutationTests, testedOf, counterOf, permutationAnswer}
+use Rattle.scope.specs.Tree.{direct, storedRecords}
+use Rattle.scope.specs.Why.{notAbove, whyOf, whyTests, whyRefusal, whyCall}
 use Rattle.scope.specs.Numbers.{AllNumeric, AllF64, NeverNaN}
 use Rattle.scope.proofs.Members.{at-in, every-of}
 use Rattle.scope.proofs.Every.{every-end}
@@ -28,6 +30,7 @@ use Rattle.scope.proofs.Candidates.{or-false, not-outside}
 use Rattle.scope.proofs.Sums.{length-flat}
 use Rattle.scope.proofs.Signs.{add-numeric, quotient-numeric, distance-numeric}
 use Rattle.scope.proofs.Finite.{zero-plus-finite}
+use Rattle.scope.proofs.Why.{told-number}
 use Rattle.scope.proofs.Chosen.{best-numeric, search-number, stored-numbers, records-numbers, nodes-numbers}
 
 -- ---- what is told: nothing where the call is refused
@@ -175,17 +178,20 @@ p-numeric a t e =
     sym (ap (λ (w : Tested). numeric (w .p)) is) ∙ quotient-numeric binary64 (counterOf (within a)) (a .P + 1) (omega arith) (omega (arith, ltb-false mostPermutations (a .P) i))
 
 pub never-NaN : NeverNaN
-unfolding gainCall gainRefusal searchCall searchRefusal storedCall storedRefusal treeCall treeRefusal orderingCall orderingRefusal predictCall
+unfolding gainCall gainRefusal searchCall searchRefusal storedCall storedRefusal treeCall treeRefusal whyCall whyRefusal storedRecords orderingCall orderingRefusal predictCall
 never-NaN =
     record {
       gain-sums = λ a. sums-told (a .matrix) (gainRefusal a) (sized-by mostRows (omega arith) (a .matrix) (gainTests a) (all-in-order .gain a) refl 1 (omega arith) refl);
       search-sums = λ a. sums-told (a .matrix) (searchRefusal a) (sized-by mostRows (omega arith) (a .matrix) (searchTests a) (all-in-order .search a) refl 2 (omega arith) refl);
       stored-sums = λ a. sums-told (a .matrix) (storedRefusal a) (sized-by mostRows (omega arith) (a .matrix) (storedTests a) (all-in-order .stored a) refl 2 (omega arith) refl);
       tree-sums = λ a. sums-told (a .matrix) (treeRefusal a) (sized-by mostRows (omega arith) (a .matrix) (treeTests a) (all-in-order .tree a) refl 3 (omega arith) refl);
+      why-sums = λ a. sums-told (a .matrix) (whyRefusal a) (sized-by mostRows (omega arith) (a .matrix) (whyTests a) (all-in-order .why a) refl 3 (omega arith) refl);
       search = λ a s. answered (searchRefusal a) (best (blank (a .start) (a .stop)) (trials (gainIn (a .matrix)) (a .shortest) (a .forbidden) (a .start) (a .stop))) s (best-numeric (blank (a .start) (a .stop)) _ refl);
       stored = λ a r i. stored-numbers (searchIn (a .matrix) (a .shortest) (a .forbidden)) (search-number (gainIn (a .matrix)) (a .shortest) (a .forbidden)) (segmentsOf (a .matrix) (a .shortest) (a .forbidden) (a .source)) r (told-in (storedRefusal a) (storedOf a) r i);
+      why = λ a r i. stored-numbers (direct (runOf (a .matrix) (a .settings))) (search-number (gainIn (a .matrix)) (a .settings .shortest) (a .settings .forbidden)) (runOf (a .matrix) (a .settings) .segments) r (told-in (whyRefusal a) _ r i);
       tree = λ a r i. records-numbers (runOf (a .matrix) (a .settings)) r (told-in (treeRefusal a) _ r i);
       node = λ a d r i. nodes-numbers (runOf (a .matrix) (a .settings)) d (told-in (treeRefusal a) _ d i) r;
+      not-above = λ a gain g e. told-number (runOf (a .matrix) (a .settings)) (a .row) gain g (given-is (whyRefusal a) (whyOf (runOf (a .matrix) (a .settings)) (a .row)) (notAbove gain g) e .1);
       pick = pick-numeric;
       ordering-distances = λ a. distances-told (a .matrix) (orderingRefusal a) (sized-by mostNeighbours (omega arith) (a .matrix) (orderingTests a) (all-in-order .ordering a) refl 1 (omega arith) refl);
       predict-distances = λ a. distances-told (a .order .matrix) (predictRefusal a) (predict-sized a);

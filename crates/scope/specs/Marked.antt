@@ -7,7 +7,7 @@ use Prim.Native.Nat.{ℕ, _^_}
 use Prim.Native.String.{String}
 use lib.IntN.{pos, negsuc}
 use lib.ListN.{length, replicate}
-use lib.Ieee.{Float, fin, binary64, add, sub, mul, div, ofInt, ofBits, toBits, lt, le, isNan}
+use lib.Ieee.{Float, nan, fin, binary64, add, sub, mul, div, ofInt, ofBits, toBits, lt, le, isNan}
 use Rattle.scope.specs.Floats.{whole, _⊘_}
 use Rattle.scope.specs.Lists.{upward, select, every}
 use Rattle.scope.specs.Asked.{Matrix, Shortest, off, on, oneMore, Source, nothing, Settings}
@@ -24,8 +24,10 @@ use Rattle.scope.specs.Neighbours.{difference, squares, distances, inser
 use Rattle.scope.specs.Curves.{guesses}
 use Rattle.scope.specs.Permutations.{isPermutation, wrongPermutations, addDeltas, added, reaches, exceeds, counter}
 use Rattle.scope.specs.Calls.{Split, Room, OrderingAsked, Counts, Tested, lengthAnswer, candidatesRefusal, candidatesCall, gainRefusal, gainCall, searchRefusal, searchCall, storedRefusal, storedCall, treeRefusal, treeCall, predictRefusal, predictCall, guessesAnswer, wrongLengths, permutationAnswer}
+use Rattle.scope.specs.Why.{Why, cut, tooNear, barred, noNumber, notAbove, placeOf, isNear, firstBarring, whyOf, whyRefusal, whyCall}
 use Rattle.scope.specs.Text.{bytes, same, parts, valueOf, number, cell, cellsOf, hexValueOf, threshold, decimalOf, hexOf, line}
 use Rattle.scope.specs.Program.{wrongDeck, wrongPairs, readLine, readLines, readInput, deckRefusal, cutLines, sheetText, program}
+use Rattle.scope.specs.WhyText.{askedRefusal, whyProgram}
 
 -- a case, by the call that it makes; every lent slice has the room of ten rows and more
 data Case : Type 0 where
@@ -40,6 +42,8 @@ data Case : Type 0 where
   seededBy : ℕ → Float → Case
   lengthOf : Float → ℕ → Case
   guessesOf : Shortest → (start stop : ℕ) → Option (List ℕ) → Case
+  whyOfRow : List ℕ → Shortest → Float → List ℕ → Source → ℕ → Case
+  lineOf : ℕ → String → Case
 
 -- what is seen of it
 data Seen : Type 0 where
@@ -54,6 +58,7 @@ data Seen : Type 0 where
   segments : List Segment → Seen
   least : Answer ℕ → Seen
   guessed : Answer (List ℕ) → Seen
+  why : Answer Why → Seen
 
 abbrev room : ℕ
 room = 64
@@ -108,13 +113,25 @@ run (seededBy n v) = segments (seeded n (v ∷ []))
 run (lengthOf r n) = least (lengthAnswer r n)
 run (guessesOf s start stop forbidden) = guessed (guessesAnswer (record { n = 10; shortest = s; forbidden = forbidden; start = start; stop = stop }))
 
+run (whyOfRow cells s t forbidden source row) =
+    let settings : Settings = record { shortest = s; threshold = t; forbidden = forbidden; source = source } in
+    why (whyCall (record { matrix = column cells; settings = settings; row = row; sums = room; records = room }) .answer)
+run (lineOf row input) = text (whyProgram row (bytes input))
+
 -- a case and what is to be seen
 record Marked : Type 0 where
   case : Case
   seen : Seen
 
+-- M7's deck, and its rows
+M7 : String
+M7 = "cfg\t8\t1\t1\t4024000000000000\nrow\t0\nrow\t0\nrow\t0\nrow\t0\nrow\t8\nrow\t8\nrow\t8\nrow\t8\n"
+
+halves : List ℕ
+halves = 0 ∷ 0 ∷ 0 ∷ 0 ∷ 8 ∷ 8 ∷ 8 ∷ 8 ∷ []
+
 marked : List Marked
-unfolding from wild
+unfolding from wild M7 halves
 marked =
     -- M1 [0,10), m=3: 3 to 6
     record { case = allowedRows (off 3) 0 10 []; seen = rows (given 4) (3 ∷ 4 ∷ 5 ∷ 6 ∷ []) }
@@ -132,7 +149,7 @@ marked =
     ∷ record { case = bestSplit (0 ∷ 0 ∷ 8 ∷ 0 ∷ 0 ∷ []) (off 1); seen = split (given (record { split = 2; gain = whole 256 ⊘ whole 30 })) }
     -- M7 the program's case
     ∷ record {
-      case = sheetOf "cfg\t8\t1\t1\t4024000000000000\nrow\t0\nrow\t0\nrow\t0\nrow\t0\nrow\t8\nrow\t8\nrow\t8\nrow\t8\n";
+      case = sheetOf M7;
       seen = text (bytes "cuts\t1\ncut\t4\t4060000000000000\t0\t8\nnodes\t3\n");
     }
     -- M8 five zero rows, m=1, threshold -1: cuts 1,2,3, 7 nodes
@@ -201,9 +218,33 @@ marked =
       case = cutsOf (0 ∷ 0 ∷ 0 ∷ 0 ∷ 8 ∷ 8 ∷ 0 ∷ 0 ∷ []) (off 1) (whole 50) nothing;
       seen = tree (given (record { nodes = 1; records = 1; cuts = 0; stored = 0 })) [];
     }
+    -- why, of rows 0,0,0,0,8,8,8,8, m=1, threshold 10, which is cut at 4: row 4 is the cut of the whole run, though it is the first row of [4,8) too
+    ∷ record { case = whyOfRow halves (off 1) (whole 10) [] nothing 4; seen = why (given (cut (from 0 8))) }
+    -- the others by the uncut segment that holds them: at its ends too near, else with their gain there, which is 0
+    ∷ record { case = whyOfRow halves (off 1) (whole 10) [] nothing 0; seen = why (given (tooNear (from 0 4))) }
+    ∷ record { case = whyOfRow halves (off 1) (whole 10) [] nothing 3; seen = why (given (tooNear (from 0 4))) }
+    ∷ record { case = whyOfRow halves (off 1) (whole 10) [] nothing 7; seen = why (given (tooNear (from 4 8))) }
+    ∷ record { case = whyOfRow halves (off 1) (whole 10) [] nothing 2; seen = why (given (notAbove (whole 0) (from 0 4))) }
+    -- with the closed end row 7 is not too near
+    ∷ record { case = whyOfRow halves (on 1) (whole 10) [] nothing 7; seen = why (given (notAbove (whole 0) (from 4 8))) }
+    -- barred, by the first listed pair that bars it; too near comes first
+    ∷ record { case = whyOfRow halves (off 1) (whole 10) (5 ∷ 6 ∷ 4 ∷ 7 ∷ []) nothing 6; seen = why (given (barred 5 6 (from 4 8))) }
+    ∷ record { case = whyOfRow halves (off 1) (whole 10) (4 ∷ 7 ∷ 5 ∷ 6 ∷ []) nothing 6; seen = why (given (barred 4 7 (from 4 8))) }
+    ∷ record { case = whyOfRow halves (off 1) (whole 10) (4 ∷ 7 ∷ []) nothing 7; seen = why (given (tooNear (from 4 8))) }
+    -- no number: 2^1023 three times
+    ∷ record { case = whyOfRow (replicate 3 (2 ^ 1023)) (off 1) (whole 10) [] nothing 1; seen = why (given (noNumber (from 0 3))) }
+    -- a cut by a draw's record, that of [0,6), is told of the reached segment
+    ∷ record { case = whyOfRow (0 ∷ 0 ∷ 0 ∷ 0 ∷ 8 ∷ 8 ∷ 0 ∷ 0 ∷ []) (off 1) (whole 50) [] (wild (0 ∷ 6 ∷ []) 1) 4; seen = why (given (cut (from 0 8))) }
+    -- 8: a row at n. 3 comes before
+    ∷ record { case = whyOfRow halves (off 1) (whole 10) [] nothing 8; seen = why (refused 8) }
+    ∷ record { case = whyOfRow halves (off 1) nan [] nothing 8; seen = why (refused 3) }
+    -- as the program writes it
+    ∷ record { case = lineOf 4 M7; seen = text (bytes "cut\t4\t0\t8\n") }
+    ∷ record { case = lineOf 2 M7; seen = text (bytes "below\t2\t0000000000000000\t0\t4\n") }
+    ∷ record { case = lineOf 8 M7; seen = text (bytes "refused\t8\n") }
     ∷ []
 
--- M1 to M11, the three rows for the slips, six for the closed end and thirteen for draws
+-- M1 to M11, the three rows for the slips, six for the closed end, thirteen for draws and sixteen for why
 marked-right : map (λ (c : Marked). run (c .case)) marked ≡ map (λ (c : Marked). c .seen) marked
-unfolding run marked oneMore add sub mul div ofInt ofBits toBits lt le isNan upward select every outside wrongMatrix isBetween wellPaired wrongLayers wrongSegment wrongSplit allBarred wrongPermutations wrongLengths wrongDeck wrongPairs nearestOf truncation ceiling minimalLength wholeRoot isBarred rangeSize candidates flatSums prefixSums term terms innerGain gainOf better best trials search layerLength layerCount layerStep layerStart layerStop layerSegments seeded layersTotal stored pairsOf drawn isOdd bothGiven anyPast storedRecords inside choice verdict grow grown recordsOf nodeCount nodes cuts sheet difference squares distances insert ordered orderOf others neighbours countOf predictions isPermutation addDeltas added reaches exceeds counter lengthAnswer candidatesRefusal candidatesCall gainRefusal gainCall searchRefusal searchCall storedRefusal storedCall treeRefusal treeCall predictRefusal predictCall guesses guessesAnswer permutationAnswer bytes same parts valueOf number cell cellsOf hexValueOf threshold decimalOf hexOf line readLine readLines readInput deckRefusal cutLines sheetText program flatten
+unfolding run marked oneMore add sub mul div ofInt ofBits toBits lt le isNan upward select every outside wrongMatrix isBetween wellPaired wrongLayers wrongSegment wrongSplit allBarred wrongPermutations wrongLengths wrongDeck wrongPairs nearestOf truncation ceiling minimalLength wholeRoot isBarred rangeSize candidates flatSums prefixSums term terms innerGain gainOf better best trials search layerLength layerCount layerStep layerStart layerStop layerSegments seeded layersTotal stored pairsOf drawn isOdd bothGiven anyPast storedRecords inside choice verdict grow grown recordsOf nodeCount nodes cuts sheet difference squares distances insert ordered orderOf others neighbours countOf predictions isPermutation addDeltas added reaches exceeds counter lengthAnswer candidatesRefusal candidatesCall gainRefusal gainCall searchRefusal searchCall storedRefusal storedCall treeRefusal treeCall predictRefusal predictCall guesses guessesAnswer permutationAnswer placeOf isNear firstBarring whyOf whyRefusal whyCall askedRefusal whyProgram bytes same parts valueOf number cell cellsOf hexValueOf threshold decimalOf hexOf line readLine readLines readInput deckRefusal cutLines sheetText program flatten
 marked-right = refl

@@ -9,7 +9,9 @@ use Rattle.scope.specs.Lists.{_∈_, every}
 use Rattle.scope.specs.Refusals.{given}
 use Rattle.scope.specs.Greatest.{numeric}
 use Rattle.scope.specs.Grid.{Record}
+use Rattle.scope.specs.Layers.{Segment}
 use Rattle.scope.specs.Tree.{Node}
+use Rattle.scope.specs.Why.{notAbove, WhyAsked, whyCall}
 use Rattle.scope.specs.Calls.{Split, GainAsked, gainCall, SearchAsked, searchCall, StoredAsked, storedCall, TreeAsked, treeCall, OrderingAsked, orderingCall, PredictAsked, predictCall, PickAsked, pickAnswer, Tested, PermutationAsked, permutationAnswer}
 
 -- no NaN stands in the list
@@ -26,14 +28,18 @@ pub record NeverNaN : Type 0 where
   pub search-sums : (a : SearchAsked) → AllF64 (a .matrix .cells) → AllNumeric (searchCall a .sums)
   pub stored-sums : (a : StoredAsked) → AllF64 (a .matrix .cells) → AllNumeric (storedCall a .sums)
   pub tree-sums : (a : TreeAsked) → AllF64 (a .matrix .cells) → AllNumeric (treeCall a .sums)
+  pub why-sums : (a : WhyAsked) → AllF64 (a .matrix .cells) → AllNumeric (whyCall a .sums)
   -- ---- gains: "NaN never does" win
   -- what a search answers
   pub search : (a : SearchAsked) (s : Split) → searchCall a .answer ≡ given s → numeric (s .gain) ≡ true
   -- each stored record
   pub stored : (a : StoredAsked) (r : Record) → r ∈ storedCall a .records → numeric (r .gain) ≡ true
+  pub why : (a : WhyAsked) (r : Record) → r ∈ whyCall a .records → numeric (r .gain) ≡ true
   pub tree : (a : TreeAsked) (r : Record) → r ∈ treeCall a .records → numeric (r .gain) ≡ true
   -- each node's choice
   pub node : (a : TreeAsked) (d : Node) (r : Record) → d ∈ treeCall a .nodes → d .choice ≡ some r → numeric (r .gain) ≡ true
+  -- the gain that does not exceed the threshold, as told of a row: one that is NaN is told to be no number
+  pub not-above : (a : WhyAsked) (gain : Float) (g : Segment) → whyCall a .answer ≡ given (notAbove gain g) → numeric gain ≡ true
   -- what a pick answers, whatever the curve holds
   pub pick : (a : PickAsked) (s : Split) → pickAnswer a ≡ given s → numeric (s .gain) ≡ true
   -- ---- "A distance may overflow to infinity; NaN can't arise from finite cells."

@@ -1,5 +1,5 @@
 -- "Why is row 212 not on the sheet?" What is told of a row of a run, from readings and settings alone.
-use mathlib.Core.Bool.{Bool, not, cond, _&&_, _||_}
+use mathlib.Core.Bool.{Bool, true, false, not, cond, _&&_, _||_}
 use mathlib.Core.List.{List, [], _∷_, _++_}
 use Prim.Native.Nat.{ℕ, _+_}
 use lib.Dec.{ltb, leb, eqb}
@@ -49,14 +49,15 @@ pub data Why : Type 0 where
 abbrev pub byGain : Float → Segment → Why
 byGain gain g = cond (isNan gain) (noNumber g) (notAbove gain g)
 
-abbrev pub byBarring : Barring → Float → Segment → Why
-byBarring (by a b) gain g = barred a b g
-byBarring free gain g = byGain gain g
+-- "the first that applies"
+abbrev pub firstReason : Bool → Barring → Float → Segment → Why
+firstReason true barring gain g = tooNear g
+firstReason false (by a b) gain g = barred a b g
+firstReason false free gain g = byGain gain g
 
--- "within the uncut segment that holds it, the first that applies"
+-- "within the uncut segment that holds it"
 abbrev pub reasonIn : Run → ℕ → Segment → Why
-reasonIn q x g =
-    cond (isNear (q .shortest) g x) (tooNear g) (byBarring (firstBarring (q .forbidden) x) (q .gain (g .start) (g .stop) x) g)
+reasonIn q x g = firstReason (isNear (q .shortest) g x) (firstBarring (q .forbidden) x) (q .gain (g .start) (g .stop) x) g
 
 abbrev pub byPlace : Run → ℕ → Place → Why
 byPlace q x (atCut g) = cut g
