@@ -1,10 +1,16 @@
 -- What an enum's case tells of the definition's answer: a value was given, or the number. Assumes nothing.
-use mathlib.Core.Path.{_≡_, ap}
+use mathlib.Core.Path.{_≡_, sym, _∙_, ap}
 use Prim.Native.Nat.{ℕ}
 use lib.Ieee.{Float}
 use Rattle.scope.specs.Refusals.{Answer, refused, given}
 use Rattle.scope.specs.Calls.{Tested}
+use Rattle.scope.specs.Why as scope
 use Rattle.scope.proofs.Never.{never}
+use Rattle.reasons.specs.declared.Why.{Why}
+use Rattle.reasons.specs.Answers.{toWhy, fromWhy}
+use Rattle.reasons.proofs.Answers.{to-from}
+use Rattle.entry_why.specs.Answers.{explainedOf}
+use Rattle.entry_why.specs.declared.Explained.the-variants as explained
 use Rattle.entry_lengths.specs.Answers.{lengthOf}
 use Rattle.entry_mean.specs.Answers.{countOf, gainedOf}
 use Rattle.entry_curves.specs.Answers.{permutedOf}
@@ -51,3 +57,19 @@ permuted-given (given s) t e =
 pub permuted-refused : (a : Answer Tested) (k : ℕ) → permuted.Refused k ≡ permutedOf a → a ≡ refused k
 permuted-refused (refused j) k e = let w : j ≡ k = cc in ap refused w
 permuted-refused (given s) k e = never (cc)
+
+-- ---- what is told of a row
+pub why-given : (a : Answer scope.Why) (w : Why) → explained.Why w ≡ explainedOf a → a ≡ given (toWhy w)
+why-given (refused k) w e = never (cc)
+why-given (given v) w e = let is : w ≡ fromWhy v = cc in ap given (sym (ap toWhy is ∙ to-from v))
+
+pub why-refused : (a : Answer scope.Why) (k : ℕ) → explained.Refused k ≡ explainedOf a → a ≡ refused k
+why-refused (refused j) k e = let w : j ≡ k = cc in ap refused w
+why-refused (given v) k e = never (cc)
+
+-- one answer is given
+pub given-one : (a : Answer scope.Why) (v w : scope.Why) → a ≡ given v → a ≡ given w → v ≡ w
+given-one a v w e f = cc
+
+pub given-none : {X : Type 0} (a : Answer scope.Why) (k : ℕ) (w : scope.Why) → a ≡ refused k → a ≡ given w → X
+given-none a k w e f = never (cc)

@@ -7,14 +7,18 @@ use lib.Ieee.{Float}
 use lib.ListN.{length}
 use Rattle.scope.specs.Lists.{holding}
 use Rattle.scope.specs.Asked.{Matrix, Shortest, Source, Settings}
+use Rattle.scope.specs.Refusals.{given}
 use Rattle.scope.specs.Calls.{lengthAnswer, CandidatesAsked, candidatesCall, GainAsked, gainCall, SearchAsked, searchCall, TreeTold, runOf, countedCall, countsTold, PickAsked, pickAnswer, GuessesAsked, guessesAnswer, PermutationAsked, permutationAnswer}
+use Rattle.scope.specs.Why.{Why}
 use Rattle.segmentation.specs.Segments.{Slices as RecordSlices, Held}
 use Rattle.node.specs.Nodes.{toNode}
 use Rattle.demand.specs.Demand.{Demand}
+use Rattle.demand.specs.Because.{Because}
 use Rattle.prepared.specs.Answers.{treeAsked}
 use Rattle.entry_segments.specs.Left.{storedTold}
 use Rattle.entry_tree.specs.Left.{Slices, recordSlices}
-use Rattle.told.specs.Told.{numberOf, valueOr, splitOr, gainOr, entryOr, lengthOr, counterOr, pOr, significantOr}
+use Rattle.entry_why.specs.Left.{whyTold}
+use Rattle.told.specs.Told.{numberOf, valueOr, splitOr, gainOr, entryOr, lengthOr, counterOr, pOr, significantOr, toldOr, reasonNumber, segmentOf, firstOr, secondOr, notAboveOr}
 
 -- the minimal length
 pub record LengthStored (relative : Float) (n r m₀ m₁ : ℕ) : Type 0 where
@@ -58,6 +62,27 @@ pub record TreeStored (x : Matrix) (s : Settings) (r : ℕ) (before after : Slic
   pub cuts : after .cuts ≡ holding (countedTold x s before counts₀ .cuts) (before .cuts)
   pub counts : counts₁ ≡ holding (countsTold (countedTold x s before counts₀ .answer)) counts₀
   pub demand : r ≡ 0 → Demand (runOf x s)
+
+-- the places that what is told of a row is stored through
+pub record WhyPlaces : Type 0 where
+  pub reason : ℕ
+  pub start : ℕ
+  pub stop : ℕ
+  pub a : ℕ
+  pub b : ℕ
+  pub gain : Float
+
+-- what is told of a row, the stored segments' records and the prefix sums; and of a row that is not refused, that what is told is so
+pub record WhyStored (x : Matrix) (s : Settings) (row r : ℕ) (before after : RecordSlices) (places₀ places₁ : WhyPlaces) : Type 0 where
+  pub number : r ≡ numberOf (whyTold x s row before .answer)
+  pub held : Held (whyTold x s row before .sums) (whyTold x s row before .records) before after
+  pub reason : places₁ .reason ≡ toldOr (λ w k. reasonNumber w) (whyTold x s row before .answer) (places₀ .reason)
+  pub start : places₁ .start ≡ toldOr (λ w k. segmentOf w .start) (whyTold x s row before .answer) (places₀ .start)
+  pub stop : places₁ .stop ≡ toldOr (λ w k. segmentOf w .stop) (whyTold x s row before .answer) (places₀ .stop)
+  pub a : places₁ .a ≡ toldOr firstOr (whyTold x s row before .answer) (places₀ .a)
+  pub b : places₁ .b ≡ toldOr secondOr (whyTold x s row before .answer) (places₀ .b)
+  pub gain : places₁ .gain ≡ toldOr notAboveOr (whyTold x s row before .answer) (places₀ .gain)
+  pub because : (w : Why) → whyTold x s row before .answer ≡ given w → Because (runOf x s) row w
 
 -- the pick and its gain
 pub record PickStored (a : PickAsked) (r split₀ split₁ : ℕ) (gain₀ gain₁ : Float) : Type 0 where

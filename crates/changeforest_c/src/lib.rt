@@ -8,3 +8,4 @@ pub mod neighbours;
 pub mod segments;
 pub mod tree;
 pub mod two_step;
+pub mod why;

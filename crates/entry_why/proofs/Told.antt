@@ -1,11 +1,9 @@
 -- A call for why, from what is stored to what is told. Assumes nothing.
-use mathlib.Core.Path.{_≡_, refl, sym, _∙_, ap}
-use mathlib.Core.List.{List}
+use mathlib.Core.Path.{_≡_, sym, _∙_, ap}
 use Prim.Native.Nat.{ℕ}
 use Rattle.scope.specs.Asked.{Matrix, Settings}
 use Rattle.scope.specs.Tree.{Run, storedRecords}
 use Rattle.scope.specs.Calls.{sumsOf, runOf}
-use Rattle.scope.specs.Why as scope
 use Rattle.scope.specs.Why.{WhyAsked, whyOf, whyRefusal, whyCall}
 use Rattle.scope.proofs.Never.{never}
 use Rattle.demand.specs.Because.{Because}
@@ -14,19 +12,12 @@ use Rattle.control.proofs.Follows.{answer-refused, answer-given}
 use Rattle.segmentation.specs.Segments.{Slices, Held}
 use Rattle.segmentation.proofs.Held.{none-held, all-held}
 use Rattle.reasons.specs.declared.Why.{Why}
-use Rattle.reasons.specs.Answers.{toWhy, fromWhy}
+use Rattle.reasons.specs.Answers.{fromWhy}
+use Rattle.reasons.proofs.Answers.{to-from}
 use Rattle.entry_why.specs.declared.Explained.the-variants as answer
 use Rattle.entry_why.specs.Answers.{explainedOf}
 use Rattle.entry_why.specs.Left.{whyAsked, WhyLeft}
 use Rattle.entry_why.proofs.Clean.{WhyClean, why-clean}
-
--- the case says what it is made from
-to-from : (w : scope.Why) → toWhy (fromWhy w) ≡ w
-to-from (scope.cut g) = refl
-to-from (scope.tooNear g) = refl
-to-from (scope.barred a b g) = refl
-to-from (scope.noNumber g) = refl
-to-from (scope.notAbove gain g) = refl
 
 module _ (x : Matrix) (s : Settings) (row : ℕ) (before : Slices) where
   abbrev a : WhyAsked

@@ -7,7 +7,9 @@ use lib.Dec.{ltb}
 use lib.Ieee.{Float}
 use lib.ListN.{length, getD, set}
 use Rattle.scope.specs.Refusals.{Answer, refused, given}
+use Rattle.scope.specs.Layers.{Segment}
 use Rattle.scope.specs.Calls.{Split, Tested}
+use Rattle.scope.specs.Why.{Why, cut, tooNear, barred, noNumber, notAbove}
 use Rattle.entry_tree.specs.declared.Grown.{Grown}
 use Rattle.entry_tree.specs.declared.Grown.the-variants as grown
 
@@ -74,3 +76,49 @@ grownCounts (grown.Counted c stored) before = fourIn (c .nodes) (c .records) (c 
 pub record GrownTold (g : Grown) (r : ℕ) (counts₀ counts₁ : List ℕ) : Type 0 where
   pub number : r ≡ grownNumber g
   pub counts : counts₁ ≡ grownCounts g counts₀
+
+-- ---- what is told of a row
+
+-- which reason
+abbrev pub reasonNumber : Why → ℕ
+reasonNumber (cut g) = 0
+reasonNumber (tooNear g) = 1
+reasonNumber (barred a b g) = 2
+reasonNumber (noNumber g) = 3
+reasonNumber (notAbove gain g) = 4
+
+-- the segment that it is told of
+abbrev pub segmentOf : Why → Segment
+segmentOf (cut g) = g
+segmentOf (tooNear g) = g
+segmentOf (barred a b g) = g
+segmentOf (noNumber g) = g
+segmentOf (notAbove gain g) = g
+
+-- the first and the second of the pair that bars, or what two places held
+abbrev pub firstOr : Why → ℕ → ℕ
+firstOr (cut g) before = before
+firstOr (tooNear g) before = before
+firstOr (barred a b g) before = a
+firstOr (noNumber g) before = before
+firstOr (notAbove gain g) before = before
+
+abbrev pub secondOr : Why → ℕ → ℕ
+secondOr (cut g) before = before
+secondOr (tooNear g) before = before
+secondOr (barred a b g) before = b
+secondOr (noNumber g) before = before
+secondOr (notAbove gain g) before = before
+
+-- the gain that does not exceed the threshold, or what a place held
+abbrev pub notAboveOr : Why → Float → Float
+notAboveOr (cut g) before = before
+notAboveOr (tooNear g) before = before
+notAboveOr (barred a b g) before = before
+notAboveOr (noNumber g) before = before
+notAboveOr (notAbove gain g) before = gain
+
+-- the same of an answer, or what the place held
+abbrev pub toldOr : {A : Type 0} → (Why → A → A) → Answer Why → A → A
+toldOr part (refused k) before = before
+toldOr part (given w) before = part w before

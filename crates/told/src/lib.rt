@@ -1,11 +1,14 @@
 // How an answer reaches a host: what is stored through lent places. Inside the library.
 use entry_tree::Grown;
+use reasons::Why;
+use rows::Segment;
 use two_step_search::Guesses;
 ghost use mathlib.Core.Path.{_≡_};
 ghost use Prim.Native.Nat.{_≤_};
 ghost use lib.ListN.{getD, set};
 ghost use Rattle.two_step_search.specs.Guessed.{rowsOf};
-ghost use Rattle.told.specs.Told.{countedRoom, GrownTold};
+ghost use Rattle.reasons.specs.Answers.{toWhy};
+ghost use Rattle.told.specs.Told.{countedRoom, GrownTold, reasonNumber, segmentOf, firstOr, secondOr, notAboveOr};
 
 // How many of the nodes that a host lends are lent on: none where it lends less than four counts, so that a tree that nothing lower refuses is
 // refused by 7.
@@ -62,4 +65,69 @@ pub fn put_guesses(found: Guesses, first: &mut usize, second: &mut usize, third:
         return;
     }
     *third = found.third.0;
+}
+
+// What a host is told for each reason.
+const CUT: u32 = 0;
+
+const NEAR: u32 = 1;
+
+const BARRED: u32 = 2;
+
+const NAN: u32 = 3;
+
+const BELOW: u32 = 4;
+
+// Stores the segment's ends.
+fn put_ends(segment: Segment, start: &mut usize, stop: &mut usize)
+    ensures start { λ _. ⌜ now (start .exit) ≡ segment .start .0 ⌝ }
+    ensures stop { λ _. ⌜ now (stop .exit) ≡ segment .stop .0 ⌝ }
+{
+    *start = segment.start.0;
+    *stop = segment.stop.0;
+}
+
+// Stores what is told of a row: which reason, and the ends of the segment that it is told of; a and b where a pair bars it, the gain where that is
+// told. The other places stay.
+pub fn put_why(
+    found: Why,
+    reason: &mut u32,
+    start: &mut usize,
+    stop: &mut usize,
+    a: &mut usize,
+    b: &mut usize,
+    gain: &mut f64,
+)
+    ensures reason { λ _. ⌜ now (reason .exit) ≡ reasonNumber (toWhy found) ⌝ }
+    ensures start { λ _. ⌜ now (start .exit) ≡ segmentOf (toWhy found) .start ⌝ }
+    ensures stop { λ _. ⌜ now (stop .exit) ≡ segmentOf (toWhy found) .stop ⌝ }
+    ensures a { λ _. ⌜ now (a .exit) ≡ firstOr (toWhy found) (now (a .entry)) ⌝ }
+    ensures b { λ _. ⌜ now (b .exit) ≡ secondOr (toWhy found) (now (b .entry)) ⌝ }
+    ensures gain { λ _. ⌜ now (gain .exit) ≡ notAboveOr (toWhy found) (now (gain .entry)) ⌝ }
+{
+    match found {
+        Why::Cut(segment) => {
+            *reason = CUT;
+            put_ends(segment, start, stop);
+        }
+        Why::TooNear(segment) => {
+            *reason = NEAR;
+            put_ends(segment, start, stop);
+        }
+        Why::Barred(low, high, segment) => {
+            *reason = BARRED;
+            *a = low;
+            *b = high;
+            put_ends(segment, start, stop);
+        }
+        Why::NoNumber(segment) => {
+            *reason = NAN;
+            put_ends(segment, start, stop);
+        }
+        Why::NotAbove(value, segment) => {
+            *reason = BELOW;
+            *gain = value;
+            put_ends(segment, start, stop);
+        }
+    }
 }
