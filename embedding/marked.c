@@ -1,7 +1,7 @@
-/* The marked cases of document 01, some of them with a closed end, some draws, and each refusal, through the C functions: one line for
-   each call, held to marked.stdout. Arrays that are written are mostly lent longer than their room, some exactly as long, and shorter
-   where 7 is to be given; more stands behind each. `touched` is printed where an entry that was not told, lent or not, is not as it
-   was. */
+/* The marked cases of document 01, some of them with a closed end, some draws, each reason for a row, and each refusal, through the C
+   functions: one line for each call, held to marked.stdout. Arrays that are written are mostly lent longer than their room, some exactly
+   as long, and shorter where 7 is to be given; more stands behind each. `touched` is printed where an entry that was not told, lent or
+   not, is not as it was. */
 #include <inttypes.h>
 #include <stdio.h>
 #include <string.h>
@@ -160,6 +160,27 @@ static void tree(const char *name, const double *cells, size_t n, bool closed, d
     end(no);
 }
 
+/* Rows 5 and 6 are barred, 6 twice. Of the outputs, those that the reason does not go with stay 77 and 7.5. */
+static void why(const char *name, const double *cells, size_t n, bool closed, double threshold, struct lists l, size_t row, size_t room,
+                size_t stored)
+{
+    static const size_t barred[] = {6, 6, 5, 6, 4, 6};
+    double sums[ROOM], gains[ROOM], found = 7.5;
+    size_t rows[ROOM], start = 77, stop = 77, a = 77, b = 77;
+    uint32_t reason = 77;
+    fill_floats(sums);
+    fill_floats(gains);
+    fill_rows(rows);
+    uint32_t no = changeforest_why(cells, n, n, 1, 1, closed, threshold, barred, LEN(barred), l.layers, l.layers_len, l.draws, l.draws_len,
+                                   l.w, row, sums, n + 1 + SPARE, rows, 3 * room, gains, room, &reason, &start, &stop, &a, &b, &found);
+    printf("%s %" PRIu32 " %zu %zu %zu %zu %016" PRIx64 " sums", name, reason, start, stop, a, b, bits(found));
+    floats_told(sums, no == 0 ? n + 1 : 0);
+    printf(" records");
+    rows_told(rows, 3 * stored);
+    floats_told(gains, stored);
+    end(no);
+}
+
 static void predict(const char *name, const double *cells, size_t n, size_t stop, size_t split)
 {
     uint32_t ordering[ROOM] = {0};
@@ -245,6 +266,7 @@ int main(void)
     static const size_t both[] = {0, 1, 1, 0, 0, 1};
     static const double bump[] = {0, 0, 8, 8, 0, 0, 0, 0};
     static const size_t draws[] = {4, 4, 0, 2, 0, 4, 2, 6}, past[] = {0, 4, 9, 9};
+    static const double high[] = {1e308, 1e308, 1e308}, steep[] = {0, 0, 1e308, 1e308};
 
     candidates("M1", 10, 3, false, none, 0, 10, 4 + SPARE);
     candidates("M2", 10, 5, false, none, 0, 10, 0);
@@ -287,6 +309,21 @@ int main(void)
     tree("no sheet", bump, LEN(bump), false, 40, nothing, 13, 4);
     tree("sheet of draws", bump, LEN(bump), false, 40, drawn(draws, LEN(draws), 1), 13, 5);
 
+    why("why 0", m7, LEN(m7), false, 10, nothing, 0, SPARE, 0);
+    why("why 2", m7, LEN(m7), false, 10, nothing, 2, SPARE, 0);
+    why("why 4", m7, LEN(m7), false, 10, nothing, 4, 0, 0);
+    why("why 5", m7, LEN(m7), false, 10, nothing, 5, SPARE, 0);
+    why("why 6", m7, LEN(m7), false, 10, nothing, 6, SPARE, 0);
+    why("why 7", m7, LEN(m7), false, 10, nothing, 7, SPARE, 0);
+    why("no number", high, LEN(high), false, -1, nothing, 1, SPARE, 0);
+    why("not above infinity", steep, LEN(steep), false, infinite[1], nothing, 2, SPARE, 0);
+    why("not above", bump, LEN(bump), false, 40, nothing, 4, SPARE, 0);
+    why("cut by a draw", bump, LEN(bump), false, 40, drawn(draws, LEN(draws), 1), 2, 1, 1);
+    why("cut behind it", bump, LEN(bump), false, 40, drawn(draws, LEN(draws), 1), 4, 1 + SPARE, 1);
+    why("cut by a layer", bump, LEN(bump), false, 40, layered(half), 2, 3, 2);
+    why("last row", last, LEN(last), false, 48, nothing, 3, SPARE, 0);
+    why("last row closed", last, LEN(last), true, 48, nothing, 3, SPARE, 0);
+
     candidates("no rows", 0, 3, false, none, 0, 10, 4);
     length("half", 0.5, 100);
     test("alpha", 1, 3, false, m10, LEN(m10), 1);
@@ -325,5 +362,13 @@ int main(void)
     tree("short counts and past the run", bump, LEN(bump), false, 40, drawn(past, LEN(past), 1), 13, 3);
     segments("past the run", bump, LEN(bump), false, drawn(past, LEN(past), 1), 1);
     tree("past the run of a tree", bump, LEN(bump), false, 40, drawn(past, LEN(past), 1), 13, 4);
+
+    why("why NaN", m7, LEN(m7), false, infinite[1] - infinite[1], nothing, 8, SPARE, 0);
+    why("why an odd list", bump, LEN(bump), false, 40, drawn(draws, 7, 2), 2, 2, 0);
+    why("why 4,097 records", bump, LEN(bump), false, 40, drawn(draws, LEN(draws), 4097), 2, 3, 0);
+    why("why in short room", bump, LEN(bump), false, 40, drawn(draws, LEN(draws), 3), 8, 2, 0);
+    why("why past the run", bump, LEN(bump), false, 40, drawn(past, LEN(past), 1), 2, 1, 0);
+    why("why 8", m7, LEN(m7), false, 10, nothing, 8, SPARE, 0);
+    why("why the last of all", m7, LEN(m7), false, 10, nothing, SIZE_MAX, SPARE, 0);
     return 0;
 }

@@ -37,7 +37,7 @@
     6  more than 64 layers, or a layer value not in [1/4096, 1); layers and draws both; w above 4,096, with draws or without
     7  an array that is written is shorter than its room
     8  start > stop or stop > n; a split below start or above stop; for predict also start = stop; a draw with stop > n, also one that is
-       passed over or not reached
+       passed over or not reached; for why a row at or past n
     9  2*m >= stop-start, or where closed is true 2*m > stop-start; for permutations likewise with L for stop-start
    10  every row of the candidate range is barred
    11  no list of p permutations of 0..L-1, or p above 999
@@ -117,6 +117,27 @@ uint32_t changeforest_tree(const double *cells, size_t cells_len, size_t n, size
                            size_t draws_len, size_t w, double *sums, size_t sums_len, size_t *rows, size_t rows_len, double *gains,
                            size_t gains_len, struct changeforest_node *nodes, size_t nodes_len, size_t *cuts, size_t cuts_len,
                            size_t *counts, size_t counts_len);
+
+/* What changeforest_why stores in reason. */
+enum {
+    CHANGEFOREST_CUT = 0,    /* the segment is cut at the row */
+    CHANGEFOREST_NEAR = 1,   /* too near an end: row < start+m, or not row+m < stop, or not row+m <= stop where closed is true */
+    CHANGEFOREST_BARRED = 2, /* a < row and row <= b: the first listed pair that bars it */
+    CHANGEFOREST_NAN = 3,    /* its gain in the segment is no number */
+    CHANGEFOREST_BELOW = 4   /* that gain does not exceed threshold */
+};
+
+/* Why a row is on the sheet or is not. The tree that changeforest_tree grows of the same arguments is gone down from the run to the
+   segment that is cut at row, or to the one that holds row and is not cut: its own ends into start and stop, whatever its choice carries.
+   Where it is not cut, reason takes the first of the other four that applies: so each before it is false. For CHANGEFOREST_BARRED alone
+   the pair goes into a and b, for CHANGEFOREST_BELOW alone the gain into gain; otherwise they stay as they were. Row 0 is too near an
+   end. sums, rows and gains are left as changeforest_stored_segments leaves them. Room: sums (n+1)*d; with T as there, rows 3*T and
+   gains T. Refusals: 1, 2, 3 (threshold), 4, 5, 6, 7, 8 (draws, row). */
+uint32_t changeforest_why(const double *cells, size_t cells_len, size_t n, size_t d, size_t m, bool closed, double threshold,
+                          const size_t *forbidden, size_t forbidden_len, const double *layers, size_t layers_len, const size_t *draws,
+                          size_t draws_len, size_t w, size_t row, double *sums, size_t sums_len, size_t *rows, size_t rows_len,
+                          double *gains, size_t gains_len, uint32_t *reason, size_t *start, size_t *stop, size_t *a, size_t *b,
+                          double *gain);
 
 /* For each row all rows by squared distance from it, equal ones by lower index, into ordering, row after row; distances takes the
    last row's. Room: ordering n*n, distances n. Refusals: 1, 4, 7. */

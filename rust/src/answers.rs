@@ -63,6 +63,27 @@ pub struct Tree {
     pub stored: usize,
 }
 
+/// Why a row is on the sheet or is not: the segment `[start, stop)` that is cut at it; or the one that holds it and is not cut, with the
+/// first of the other four that applies, so that each before it is false.
+#[derive(Clone, Copy, Debug, PartialEq)]
+pub enum Why {
+    /// The segment is cut at the row.
+    #[non_exhaustive]
+    Cut { start: usize, stop: usize },
+    /// The row is too near an end for a part of m rows.
+    #[non_exhaustive]
+    TooNear { start: usize, stop: usize },
+    /// The row is barred: `a` and `b` are the first listed pair with a < row <= b.
+    #[non_exhaustive]
+    Barred { a: usize, b: usize, start: usize, stop: usize },
+    /// The gain of cutting the segment at the row is no number.
+    #[non_exhaustive]
+    NoNumber { start: usize, stop: usize },
+    /// That gain, which does not exceed the threshold.
+    #[non_exhaustive]
+    NotAbove { gain: f64, start: usize, stop: usize },
+}
+
 /// One to three guesses, ascending; with a closed end and no list a segment of two rows has its one candidate twice.
 #[derive(Clone, Copy, Debug, PartialEq, Eq)]
 pub struct Guesses {

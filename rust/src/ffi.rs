@@ -32,6 +32,13 @@ extern "C" {
         sums: *mut f64, sums_len: usize, rows: *mut usize, rows_len: usize, gains: *mut f64, gains_len: usize,
         nodes: *mut Node, nodes_len: usize, cuts: *mut usize, cuts_len: usize, counts: *mut usize, counts_len: usize,
     ) -> u32;
+    pub fn changeforest_why(
+        cells: *const f64, cells_len: usize, n: usize, d: usize, m: usize, closed: bool, threshold: f64,
+        forbidden: *const usize, forbidden_len: usize, layers: *const f64, layers_len: usize,
+        draws: *const usize, draws_len: usize, w: usize, row: usize,
+        sums: *mut f64, sums_len: usize, rows: *mut usize, rows_len: usize, gains: *mut f64, gains_len: usize,
+        reason: *mut u32, start: *mut usize, stop: *mut usize, a: *mut usize, b: *mut usize, gain: *mut f64,
+    ) -> u32;
     pub fn changeforest_ordering(
         cells: *const f64, cells_len: usize, n: usize, d: usize, ordering: *mut u32, ordering_len: usize,
         distances: *mut f64, distances_len: usize,

@@ -12,6 +12,7 @@ mod mean;
 mod neighbours;
 mod tree;
 mod two_step;
+mod why;
 
 pub use curves::{gain_from_likelihoods, permutation_test};
 pub use lengths::{minimal_segment_length, nearest_f32};
@@ -19,3 +20,4 @@ pub use mean::{find_best_split, gain, split_candidates};
 pub use neighbours::{ordering, predict, PredictRoom};
 pub use tree::{stored_segments, tree, SegmentsRoom, TreeRoom};
 pub use two_step::{guesses, pick};
+pub use why::why;

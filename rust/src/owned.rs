@@ -2,7 +2,7 @@
 use std::ops::Range;
 
 use crate::lent::{self, PredictRoom, SegmentsRoom, TreeRoom};
-use crate::{Lists, Matrix, Node, Record, Refusal, Segments, Settings, Split, Tree};
+use crate::{Lists, Matrix, Node, Record, Refusal, Segments, Settings, Split, Tree, Why};
 
 /// The sizes of documents 01 and 02. Beyond them a call is refused by 1 or 6, whatever its room: none is allocated.
 const MOST_ROWS: usize = 4096;
@@ -68,11 +68,15 @@ fn records(rows: &[usize], gains: &[f64], count: usize) -> Vec<Record> {
         .collect()
 }
 
+/// Room for three entries of `rows` and one of `gains` for each record.
+fn records_room(count: usize) -> (Vec<usize>, Vec<f64>) {
+    (vec![0; 3 * count], vec![0.0; count])
+}
+
 /// The records that searching the segments stores. Reads m, closed and forbidden.
 pub fn stored_segments(matrix: Matrix, settings: &Settings, segments: Segments) -> Result<Vec<Record>, Refusal> {
     let lists = Lists::from(segments);
-    let room = most_stored(lists);
-    let (mut sums, mut rows, mut gains) = (sums_room(matrix), vec![0; 3 * room], vec![0.0; room]);
+    let (mut sums, (mut rows, mut gains)) = (sums_room(matrix), records_room(most_stored(lists)));
     let room = SegmentsRoom { sums: &mut sums, rows: &mut rows, gains: &mut gains };
     let count = lent::stored_segments(matrix, settings, lists, room)?;
     Ok(records(&rows, &gains, count))
@@ -91,14 +95,21 @@ fn most_nodes(rows: usize, settings: &Settings) -> usize {
 pub fn tree(matrix: Matrix, settings: &Settings, segments: Segments) -> Result<Tree, Refusal> {
     let lists = Lists::from(segments);
     let most = most_nodes(matrix.rows, settings);
-    let room = most_stored(lists) + most;
-    let (mut sums, mut rows, mut gains) = (sums_room(matrix), vec![0; 3 * room], vec![0.0; room]);
+    let (mut sums, (mut rows, mut gains)) = (sums_room(matrix), records_room(most_stored(lists) + most));
     let (mut nodes, mut cuts) = (vec![Node::default(); most], vec![0; (most - 1) / 2]);
     let room = TreeRoom { sums: &mut sums, rows: &mut rows, gains: &mut gains, nodes: &mut nodes, cuts: &mut cuts };
     let counts = lent::tree(matrix, settings, lists, room)?;
     nodes.truncate(counts.nodes);
     cuts.truncate(counts.cuts);
     Ok(Tree { nodes, cuts, records: records(&rows, &gains, counts.records), stored: counts.stored })
+}
+
+/// Why the tree that [`tree`] grows is cut at the row, or is not. Reads m, closed, threshold and forbidden.
+pub fn why(matrix: Matrix, settings: &Settings, segments: Segments, row: usize) -> Result<Why, Refusal> {
+    let lists = Lists::from(segments);
+    let (mut sums, (mut rows, mut gains)) = (sums_room(matrix), records_room(most_stored(lists)));
+    let room = SegmentsRoom { sums: &mut sums, rows: &mut rows, gains: &mut gains };
+    lent::why(matrix, settings, lists, row, room)
 }
 
 fn ordering_room(rows: usize) -> (Vec<u32>, Vec<f64>) {

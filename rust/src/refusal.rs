@@ -35,7 +35,7 @@ impl fmt::Display for Refusal {
             5 => "the forbidden list or the draws are odd, or a forbidden pair has a > b",
             6 => "more than 64 layers, a layer value not in [1/4096, 1), more than 4,096 to store, or layers and draws both",
             7 => "a lent slice is too short",
-            8 => "no segment of the run, a split outside it, or a draw with stop > n",
+            8 => "no segment of the run, a split outside it, no row of the run, or a draw with stop > n",
             9 => "the segment has no candidate range",
             10 => "every candidate is forbidden",
             11 => "no list of permutations",

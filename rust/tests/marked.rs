@@ -1,5 +1,5 @@
 //! The marked cases of document 01, through both forms of the functions.
-use haspgarnet_changeforest::{lent, owned, Curves, Matrix, Permutations, Record, Refusal, Segments, Settings};
+use haspgarnet_changeforest::{lent, owned, Curves, Matrix, Permutations, Record, Refusal, Segments, Settings, Why};
 
 mod common;
 use common::{choice, column, place, with_m};
@@ -163,5 +163,7 @@ fn the_page() -> Result<(), Refusal> {
     let settings = Settings { m: 2, threshold: 10.0, forbidden: Some(&[2, 3]), ..Settings::default() };
     let sheet = owned::tree(readings, &settings, Segments::Layers(&[0.5]))?.cuts;
     assert_eq!(sheet, [5, 9]);
+    let why = owned::why(readings, &settings, Segments::Layers(&[0.5]), 7)?;
+    assert!(matches!(why, Why::TooNear { start: 5, stop: 9, .. }));
     Ok(())
 }

@@ -1,33 +1,33 @@
 -- What the tree of a deck leaves in lent memory, and the text that is written from it. Assumes nothing.
 use mathlib.Core.Path.{_≡_, refl}
 use mathlib.Core.List.{List, [], _∷_}
-use Prim.Native.Nat.{ℕ, zero, suc, _+_, _*_, _≤_}
+use Prim.Native.Nat.{ℕ, zero, suc, _+_, _≤_}
 use native.Mathlib.Omega.{arith}
-use borrow.Author.Tests.{ltb-false}
-use lib.Ieee.{Float, ofBits, binary64}
+use lib.Ieee.{Float}
 use lib.ListN.{length, take, length-map}
 use lib.Seq.{take-at}
-use Rattle.scope.specs.Asked.{off, nothing}
+use Rattle.scope.specs.Asked.{off}
 use Rattle.scope.specs.Lists.{holding}
-use Rattle.scope.specs.Refusals.{refused, unless}
+use Rattle.scope.specs.Refusals.{unless}
 use Rattle.scope.specs.Grid.{Record}
 use Rattle.scope.specs.Layers.{seeded, layersTotal, stored}
 use Rattle.scope.specs.Text.{bytes, decimal, line}
 use Rattle.scope.specs.Tree.{Run, Tree, storedRecords, treeOf, recordsOf, nodeCount, cuts, sheet, mostNodes}
-use Rattle.scope.specs.Calls.{countsOf, treeTests, treeRefusal, treeCall}
-use Rattle.scope.specs.Program.{sheetText, judgedText}
+use Rattle.scope.specs.Calls.{countsOf, treeCall}
+use Rattle.scope.specs.Program.{sheetText, orRefused}
 use Rattle.scope.proofs.Never.{never}
-use Rattle.scope.proofs.Candidates.{not-outside}
-use Rattle.control.proofs.Sizes.{matrix}
-use Rattle.control.proofs.Clean.{passed}
 use Rattle.stored.specs.Flat.{flatRows, gainsOf, recordsIn}
 use Rattle.stored.proofs.Flat.{records-told}
 use Rattle.demand.proofs.Demand.{demand, records-fit}
 use Rattle.line.specs.declared.Given.{Given}
 use Rattle.limits.specs.Limits.{givenRefusal}
+use Rattle.limits.specs.Held.{matrixHeld, settingsHeld, runHeld}
+use Rattle.limits.proofs.Clean.{GivenClean, given-clean}
+use Rattle.limits.proofs.Held.{refused-first}
 use Rattle.sheet_text.specs.Lines.{sheetOf}
 use Rattle.sheet_text.proofs.Lookup.{lines-are}
-use Rattle.answers.specs.Answered.{matrixHeld, settingsHeld, runHeld, lent, treeNumber, Grew, givenText}
+use Rattle.answers.specs.Answered.{treeNumber, Grew, givenText}
+use Rattle.answers.proofs.Limits.{few-nodes}
 use Rattle.entry_tree.specs.Answers.{grownOf}
 use Rattle.segmentation.specs.Segments.{Slices as RecordSlices}
 use Rattle.entry_tree.specs.Left.{PointsLeft}
@@ -36,16 +36,16 @@ use Rattle.entry_tree.specs.declared.Grown.the-variants as grown
 use Rattle.binary_segmentation.specs.declared.tree.Counts.{Counts as Counted}
 
 -- what the call for the tree ensures, in the room that the types give, is what `Grew` says
-module _ (g : Given) (cells : List Float) (forbidden : List ℕ) (threshold : Float) (is : threshold ≡ ofBits binary64 (g .threshold)) (before after : RecordSlices) (cuts₀ cuts₁ : List ℕ) (r : Grown)
-    (left : PointsLeft (matrixHeld g cells) (record { shortest = off (g .m); threshold = threshold; forbidden = take (2 * g .pairs) forbidden; source = nothing }) r before after cuts₀ cuts₁) where
+module _ (g : Given) (cells : List Float) (forbidden : List ℕ) (before after : RecordSlices) (cuts₀ cuts₁ : List ℕ) (r : Grown)
+    (left : PointsLeft (matrixHeld g cells) (settingsHeld g forbidden) r before after cuts₀ cuts₁) where
   pub grew : length (before .sums) ≡ 2112 → length (before .rows) ≡ 1527 → length (before .gains) ≡ 509 → length cuts₀ ≡ 254
       → Grew g cells forbidden (before .rows) (before .gains) cuts₀ (after .rows) (after .gains) cuts₁ r
   unfolding treeNumber treeCall
   grew a b c d = record {
-    answer-is = rw (is, a, b, c, d) at (left .answer);
-    rows-are = rw (is, a, b, c, d) at (left .held .rows-are);
-    gains-are = rw (is, a, b, c, d) at (left .held .gains-are);
-    cuts-are = rw (is, a, b, c, d) at (left .cuts);
+    answer-is = rw (a, b, c, d) at (left .answer);
+    rows-are = rw (a, b, c, d) at (left .held .rows-are);
+    gains-are = rw (a, b, c, d) at (left .held .gains-are);
+    cuts-are = rw (a, b, c, d) at (left .cuts);
   }
 
 -- ---- the text
@@ -56,8 +56,7 @@ sheet-long t = length-map (cuts t) (λ (r : Record). r .split)
 -- the deck's own refusal is written first
 pub deck-refused : (g : Given) (cells : List Float) (forbidden : List ℕ) (k : ℕ) → k ≡ givenRefusal g forbidden → (k ≡ 0 → ⊥) → line (bytes "refused" ∷ decimal k ∷ []) ≡ givenText g cells forbidden
 unfolding givenText
-deck-refused g cells forbidden zero e h = absurd (h refl)
-deck-refused g cells forbidden (suc k) e h = rw (← e)
+deck-refused g cells forbidden k e h = rw (← e) (refused-first k _ _ h)
 
 module _ (g : Given) (cells : List Float) (forbidden : List ℕ) (judged : givenRefusal g forbidden ≡ 0) where
   abbrev q : Run
@@ -68,7 +67,7 @@ module _ (g : Given) (cells : List Float) (forbidden : List ℕ) (judged : given
   unfolding givenText
   refused-text k h = rw judged (go (treeNumber g cells forbidden) h)
     where
-      go : (j : ℕ) → grown.Refused k ≡ grownOf (unless j (countsOf q)) → line (bytes "refused" ∷ decimal k ∷ []) ≡ judgedText j (treeOf q)
+      go : (j : ℕ) → grown.Refused k ≡ grownOf (unless j (countsOf q)) → line (bytes "refused" ∷ decimal k ∷ []) ≡ orRefused j (sheetText (treeOf q))
       go zero h = never (cc)
       go (suc j) h = let e : k ≡ suc j = cc in rw e
 
@@ -88,35 +87,21 @@ module _ (g : Given) (cells : List Float) (forbidden : List ℕ) (judged : given
       go zero e h = record { free = e; counts-are = cc }
       go (suc j) e h = never (cc)
 
-  module _ (free : treeNumber g cells forbidden ≡ 0) where
-    record Clean : Type 0 where
-      rows : 1 ≤ g .n
-      least : 1 ≤ g .m
-      nodes : mostNodes (g .n) (off (g .m)) ≤ 509
+  facts : GivenClean g
+  facts = given-clean g forbidden judged
 
-    clean : Clean
-    unfolding treeNumber treeRefusal layersTotal
-    clean =
-        let p = passed (treeTests (record { matrix = matrixHeld g cells; settings = settingsHeld g forbidden; room = lent })) tt free in
-        record {
-          rows = matrix 4096 (matrixHeld g cells .cells) (g .n) (g .d) (p .0) .rows .0;
-          least = not-outside 4096 (g .m) (p .1 .0) .0;
-          nodes = let h = ltb-false 509 (0 + mostNodes (g .n) (off (g .m))) (p .1 .1 .1 .1 .1 .1 .1 .1 .1 .1 .0) in omega arith;
-        }
+  few-records : length (recordsOf q) ≤ 509
+  unfolding layersTotal
+  few-records =
+      let h : length (recordsOf q) ≤ 0 + mostNodes (g .n) (off (g .m)) = records-fit (matrixHeld g cells) (settingsHeld g forbidden) (facts .least) (facts .sizes .rows .0) in
+      omega (arith, few-nodes (g .n) (g .m) (facts .sizes .rows .1))
 
-    few-records : length (recordsOf q) ≤ 509
-    unfolding layersTotal
-    few-records =
-        let w = clean in
-        let h : length (recordsOf q) ≤ 0 + mostNodes (g .n) (off (g .m)) = records-fit (matrixHeld g cells) (settingsHeld g forbidden) (w .least) (w .rows) in
-        omega (arith, w .nodes)
+  few-cuts : length (sheet (treeOf q)) ≤ 254
+  few-cuts = omega (arith, demand q (facts .least) (facts .sizes .rows .0) .few-cuts, few-nodes (g .n) (g .m) (facts .sizes .rows .1))
 
-    few-cuts : length (sheet (treeOf q)) ≤ 254
-    few-cuts = let w = clean in omega (arith, demand q (w .least) (w .rows) .few-cuts, w .nodes)
-
-    sheet-text : sheetOf (nodeCount (treeOf q)) (recordsOf q) (sheet (treeOf q)) ≡ givenText g cells forbidden
-    unfolding givenText sheetText
-    sheet-text = let w = clean in rw (judged, free, lines-are q (w .least) (w .rows) no-segments, sheet-long (treeOf q))
+  sheet-text : treeNumber g cells forbidden ≡ 0 → sheetOf (nodeCount (treeOf q)) (recordsOf q) (sheet (treeOf q)) ≡ givenText g cells forbidden
+  unfolding givenText sheetText
+  sheet-text free = rw (judged, free, lines-are q (facts .least) (facts .sizes .rows .0) no-segments, sheet-long (treeOf q))
 
   -- there is room for the sheet, and it is the deck's text
   pub record Sheeted (rows′ : List ℕ) (gains′ : List Float) (cuts′ : List ℕ) (counts : Counted) : Type 0 where
@@ -136,7 +121,7 @@ module _ (g : Given) (cells : List Float) (forbidden : List ℕ) (judged : given
       let d : cuts′ ≡ holding xs cuts = rw (f .free) at (h .cuts-are) in
       rw (f .counts-are)
       (record {
-        few-cuts = few-cuts (f .free);
-        few-records = few-records (f .free);
+        few-cuts = few-cuts;
+        few-records = few-records;
         text = rw (a, b, d, records-told rs _ _, take-at xs _ (length xs) refl) (sheet-text (f .free));
       })

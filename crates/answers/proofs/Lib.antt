@@ -3,4 +3,3 @@ pub mod Limits
 pub mod Grown
 pub mod Printed
 pub mod Said
-pub mod Lots

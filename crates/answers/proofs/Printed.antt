@@ -1,26 +1,23 @@
 -- The program's text answers its input: a deck that is not refused has the demand, and its lines are those of its run's tree. Assumes nothing.
-use mathlib.Core.Path.{_≡_, _∙_, ap}
+use mathlib.Core.Path.{_≡_, _∙_}
 use mathlib.Core.List.{List}
 use Prim.Native.Nat.{ℕ}
 use Rattle.scope.specs.Tree.{treeOf}
-use Rattle.scope.specs.Program.{Deck, deckRun, deckRefusal, deckText, readingText, sheetText, program}
-use Rattle.demand.specs.Printed.{Reads, withRows, withoutRows, Answers}
+use Rattle.scope.specs.Program.{Deck, deckRun, deckRefusal, deckText, sheetText, program}
+use Rattle.demand.specs.Printed.{Answers}
 use Rattle.demand.proofs.Demand.{demand}
-use Rattle.answers.proofs.Limits.{deck-clean}
-
-reads : (input : List ℕ) (deck : Deck) → Reads input deck → program input ≡ deckText deck
-unfolding program
-reads input deck (withRows e) = ap readingText e
-reads input deck (withoutRows e) = ap readingText e
+use Rattle.deck.proofs.Said.{reads-text}
+use Rattle.limits.proofs.Clean.{deck-clean}
 
 sheet-text : (deck : Deck) → deckRefusal deck ≡ 0 → deckText deck ≡ sheetText (treeOf (deckRun deck))
 sheet-text deck clean = rw clean
 
 pub answers : (input text : List ℕ) → text ≡ program input → Answers input text
+unfolding program
 answers input text is =
     record {
       is = is;
       printed = λ deck made clean.
           let f = deck-clean deck clean in
-          record { demand = demand (deckRun deck) (f .length-fits .0) (f .sizes .rows .0); lines = is ∙ reads input deck made ∙ sheet-text deck clean };
+          record { demand = demand (deckRun deck) (f .length-fits .0) (f .sizes .rows .0); lines = is ∙ reads-text deckText input deck made ∙ sheet-text deck clean };
     }

@@ -1,24 +1,19 @@
 // The program's answer to a reading: the text of its output, into lent memory. Inside the library.
 // specs/Answered.antt says what is written, and proofs/Said.antt that it is the program's text for whichever input was read. The room is in the types.
-use control::Settings;
-use control::Shortest;
 use deck::Read;
 use entry_tree::Grown;
+use limits::SUMS;
+use line::BARRED;
 use line::Given;
 use line::MOST_CELLS;
-use line::MOST_PAIRS;
 ghost use mathlib.Core.Path.{_≡_};
 ghost use Prim.Native.Nat.{_≤_};
 ghost use lib.ListN.{length, take};
+ghost use Rattle.demand.specs.Printed.{Answers};
+ghost use Rattle.deck.specs.Meaning.{readText, Said};
 ghost use Rattle.limits.specs.Limits.{givenRefusal};
 ghost use Rattle.report.specs.Written.{Written};
-ghost use Rattle.answers.specs.Answered.{givenText, readText, Said, Grew};
-
-// The forbidden pairs, flat.
-pub const BARRED: usize = 2 * MOST_PAIRS;
-
-// The prefix sums of at most 2,048 cells: one row more, of at most 64.
-pub const SUMS: usize = 2112;
+ghost use Rattle.answers.specs.Answered.{givenText, Grew};
 
 // B for 256 rows: the most nodes, so the most records, of three row numbers each.
 pub const RECORDS: usize = 509;
@@ -42,8 +37,8 @@ pub fn answer(
     cuts: &mut [usize; CUTS],
     out: &mut [u8; TEXT],
 ) -> usize
-    ensures written { λ r. ⌜ Written (now (out .entry)) 0 (readText read (now (cells .entry)) (now (forbidden .entry))) (now (out .exit)) r ⌝ }
-    ensures said { λ r. ⌜ Said read (now (cells .entry)) (now (forbidden .entry)) (take r (now (out .exit))) ⌝ }
+    ensures written { λ r. ⌜ Written (now (out .entry)) 0 (readText givenText read (now (cells .entry)) (now (forbidden .entry))) (now (out .exit)) r ⌝ }
+    ensures said { λ r. ⌜ Said Answers read (now (cells .entry)) (now (forbidden .entry)) (take r (now (out .exit))) ⌝ }
     ensures most { λ r. ⌜ r ≤ length (now (out .exit)) ⌝ }
 {
     match read {
@@ -89,23 +84,12 @@ fn grow(
     requires { ⌜ (2048 ≤ length (now cells)) × (128 ≤ length (now forbidden)) × (givenRefusal deck (now forbidden) ≡ 0) ⌝ }
     ensures { λ r. ⌜ Grew deck (now (cells .entry)) (now (forbidden .entry)) (now (rows .entry)) (now (gains .entry)) (now (cuts .entry)) (now (rows .exit)) (now (gains .exit)) (now (cuts .exit)) r ⌝ }
 {
-    let len = deck.n * deck.d;
-    let end = 2 * deck.pairs;
-    let shortest = Shortest {
-        m: deck.m,
-        closed: false,
-    };
-    let threshold = limits::threshold(deck.threshold);
-    let settings = Settings {
-        shortest,
-        threshold,
-    };
     entry_tree::split_points(
-        &cells[..len],
+        limits::cells_held(deck, cells),
         deck.n,
         deck.d,
-        settings,
-        &forbidden[..end],
+        limits::settings(deck),
+        limits::pairs_held(deck, forbidden),
         &cells[..0],
         &forbidden[..0],
         0,

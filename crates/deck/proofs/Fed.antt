@@ -2,18 +2,17 @@
 use mathlib.Core.Path.{_≡_}
 use mathlib.Core.List.{List, _++_, foldl-append}
 use Prim.Native.Nat.{ℕ, _+_, _<_, _≤_}
-use native.Mathlib.Numerals.{add-one}
-use lib.ListN.{length, drop, getD, drop-of-length-le}
-use lib.Seq.{drop-cons}
+use lib.ListN.{length, drop, getD}
+use Rattle.token.proofs.Parts.{fold-next, fold-none}
 use Rattle.deck.specs.Walk.{Run, stepRun, fed}
 
 pub fed-next : (x : Run) (bs : List ℕ) (i : ℕ) → i < length bs → fed x (drop i bs) ≡ fed (stepRun x (getD bs i 0)) (drop (i + 1) bs)
 unfolding fed
-fed-next x bs i h = rw (add-one, drop-cons bs i 0 h)
+fed-next x bs i h = fold-next stepRun x bs i h
 
 pub fed-none : (x : Run) (bs : List ℕ) (i : ℕ) → length bs ≤ i → fed x (drop i bs) ≡ x
 unfolding fed
-fed-none x bs i h = rw (drop-of-length-le bs h)
+fed-none x bs i h = fold-none stepRun x bs i h
 
 -- two lots are one, wherever the input is cut
 pub fed-lots : (x : Run) (bs cs : List ℕ) → fed x (bs ++ cs) ≡ fed (fed x bs) cs

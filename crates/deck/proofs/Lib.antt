@@ -2,3 +2,4 @@
 pub mod Fed
 pub mod Fields
 pub mod Whole
+pub mod Said

@@ -1,10 +1,11 @@
--- What an answer means: the deck that the definitions read, or the line that they call malformed.
+-- What an answer means: the deck that the definitions read, or the line that they call malformed. What is written for it, and what makes that right.
 use mathlib.Core.Path.{_≡_}
 use mathlib.Core.Logic.{_⊎_}
-use mathlib.Core.List.{List}
+use mathlib.Core.List.{List, [], _∷_}
 use Prim.Native.Nat.{ℕ, _^_, _-_, _≤_, _<_}
 use lib.Ieee.{Float}
 use lib.ListN.{length}
+use Rattle.scope.specs.Text.{bytes, decimal, line}
 use Rattle.scope.specs.Program.{Deck, Reading, barring, feeding, bad, readInput}
 use Rattle.line.specs.declared.Given.{Given}
 use Rattle.line.specs.Kept.{Kept}
@@ -41,3 +42,17 @@ Right s answer =
     → 128 ≤ length forbidden₀
     → s ≡ after input cells₀ forbidden₀ .state
     → Says cells₀ forbidden₀ answer (after input cells₀ forbidden₀ .cells) (after input cells₀ forbidden₀ .forbidden) (readInput input)
+
+-- ---- what is written: of a deck, by a rule over what is kept of it
+abbrev pub readText : (Given → List Float → List ℕ → List ℕ) → Read → List Float → List ℕ → List ℕ
+readText kept (Read.Bad k) cells forbidden = line (bytes "bad" ∷ decimal k ∷ [])
+readText kept (Read.Deck g) cells forbidden = kept g cells forbidden
+
+-- A text is right for a reading if it answers, as P says, whichever input was read so, into slices that have room.
+abbrev pub Said : (List ℕ → List ℕ → Type 0) → Read → List Float → List ℕ → List ℕ → Type 0
+Said P read cells forbidden text =
+    (input : List ℕ) (cells₀ : List Float) (forbidden₀ : List ℕ)
+    → 2048 ≤ length cells₀
+    → 128 ≤ length forbidden₀
+    → Says cells₀ forbidden₀ read cells forbidden (readInput input)
+    → P input text

@@ -4,16 +4,11 @@ use mathlib.Core.Path.{_≡_}
 use mathlib.Core.List.{List}
 use Prim.Native.Nat.{ℕ}
 use Rattle.scope.specs.Tree.{treeOf}
-use Rattle.scope.specs.Program.{Deck, barring, feeding, readInput, deckRun, deckRefusal, sheetText, program}
+use Rattle.scope.specs.Program.{Deck, Reads, deckRun, deckRefusal, sheetText, program}
 use Rattle.scope.specs.Why.{Why}
 use Rattle.scope.specs.WhyText.{whyLine, askedRefusal, whyProgram}
 use Rattle.demand.specs.Demand.{Demand}
 use Rattle.demand.specs.Because.{Because}
-
--- the input's lines make this deck, with rows or without
-pub data Reads (input : List ℕ) (deck : Deck) : Type 0 where
-  withRows : readInput input ≡ feeding deck → Reads input deck
-  withoutRows : readInput input ≡ barring deck → Reads input deck
 
 -- the sheet of a deck
 pub record Printed (deck : Deck) (text : List ℕ) : Type 0 where

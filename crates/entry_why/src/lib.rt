@@ -101,14 +101,5 @@ pub fn why(
     );
     let len = control::sums_len(n, d);
     let asked = Asked { d, settings };
-    Explained::Why(reasons::explain(
-        &sums[..len],
-        forbidden,
-        asked,
-        n,
-        rows,
-        gains,
-        count,
-        row,
-    ))
+    Explained::Why(reasons::explain(&sums[..len], forbidden, asked, n, rows, gains, count, row))
 }

@@ -1,2 +1,4 @@
 -- The laws that belong to no one function.
 pub mod Refused
+pub mod Clean
+pub mod Held

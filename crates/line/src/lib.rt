@@ -23,6 +23,9 @@ pub const MOST_PAIRS: usize = 64;
 
 const PAIRS_COUNTED: usize = MOST_PAIRS + 1;
 
+// The pairs that are kept, flat.
+pub const BARRED: usize = 2 * MOST_PAIRS;
+
 // So many cells has a row at most.
 const MOST_IN_ROW: usize = 64;
 

@@ -6,13 +6,13 @@ use native.Mathlib.Nat.{pow-suc, pow-le-pow-right}
 use native.Mathlib.Numerals.{add-one}
 use native.Mathlib.Decide.{decLe}
 use native.Mathlib.Omega.{arith}
-use lib.ListN.{length, getD, set, drop, length-append, drop-of-length-le}
-use lib.Seq.{sets, length-sets, sets-eq, drop-cons}
+use lib.ListN.{length, getD, set, take, drop, length-append, drop-of-length-le}
+use lib.Seq.{sets, length-sets, sets-eq, drop-cons, take-at}
 use borrow.Author.Tests.{lt-ltb, le-ltb}
 use Rattle.io.specs.Digits.{digits, Fewest}
 use Rattle.rows.proofs.Stored.{sets-append}
 use Rattle.scope.specs.Lists.{holding}
-use Rattle.scope.specs.Text.{bytes, decimalOf, decimal, hexOf, line}
+use Rattle.scope.specs.Text.{decimalOf, decimal, hexOf}
 use Rattle.report.specs.Written.{Written}
 
 -- one text after another
@@ -28,13 +28,19 @@ pub written-length : {l xs m : List ℕ} {at e : ℕ} → Written l at xs m e �
 written-length {l} {xs} {at = at} p = ap length (p .after-is) ∙ length-sets l at xs
 
 -- a text from the start of a slice on
-pub written-whole : {l xs m : List ℕ} {e : ℕ} → Written l 0 xs m e → length xs ≤ length l → m ≡ holding xs l
+written-whole : {l xs m : List ℕ} {e : ℕ} → Written l 0 xs m e → length xs ≤ length l → m ≡ holding xs l
 written-whole {l} {xs} p h = let e : 0 + length xs ≡ length xs = omega arith in p .after-is ∙ sets-eq xs l 0 (omega arith) ∙ rw e
 
--- the fields of a `cut` line, one after another
-pub cut-text : (split gain start stop : List ℕ) → (99 ∷ 117 ∷ 116 ∷ 9 ∷ []) ++ ((split ++ (9 ∷ [])) ++ (gain ++ ((9 ∷ []) ++ ((start ++ (9 ∷ [])) ++ (stop ++ (10 ∷ [])))))) ≡ line (bytes "cut" ∷ split ∷ gain ∷ start ∷ stop ∷ [])
-unfolding line bytes
-cut-text split gain start stop = rw (append-assoc split, append-assoc start)
+-- what is so of it is so of what stands there
+pub written-so : (P : List ℕ → Type 0) {l xs m : List ℕ} {e : ℕ} → P xs → Written l 0 xs m e → e ≤ length l → Written l 0 xs m e × (P (take e m) × (e ≤ length m))
+written-so P {l} {xs} {m} {e} so w h =
+    let long : length xs ≡ e = omega (arith, w .end-is) in
+    let is : take e m ≡ xs = ap (take e) (written-whole w (omega arith)) ∙ take-at xs (drop (length xs) l) e long in
+    (w, (rw is so, omega (arith, written-length w)))
+
+-- a field and its tab, before the rest of a line
+pub written-field : (f : List ℕ) {l m rest n : List ℕ} {at e k : ℕ} → Written l at (f ++ (9 ∷ [])) m e → Written m e rest n k → Written l at (f ++ (9 ∷ rest)) n k
+written-field f p q = rw append-assoc at (written-then p q)
 
 -- ---- a byte of a text after another
 pub sets-next : (l text : List ℕ) (at i : ℕ) → i < length text → sets l (at + i) (drop i text) ≡ sets (set l (at + i) (getD text i 0)) (at + (i + 1)) (drop (i + 1) text)

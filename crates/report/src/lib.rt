@@ -1,6 +1,8 @@
-// The lines that the program writes, into a lent slice from a position on; each function answers the position behind what it wrote. Inside the library.
-// A line has at most 84 bytes: that is the room that each asks.
+// The lines that the programs write, and their parts, into a lent slice from a position on; each function answers the position behind what it wrote.
+// Inside the library. A line of the sheet's program has at most 84 bytes: that is the room that each asks.
 use optimizer::optimizer_result::GainRecord;
+use rows::Position;
+use rows::Segment;
 ghost use mathlib.Core.Path.{_≡_};
 ghost use mathlib.Core.List.{[], _∷_, _++_};
 ghost use Prim.Native.Nat.{_+_, _≤_, _<_};
@@ -55,7 +57,7 @@ fn put_byte(out: &mut [u8], at: usize, b: u8) -> usize
 }
 
 // A number, and the byte that ends it.
-fn put_number(out: &mut [u8], at: usize, v: u64, end: u8) -> usize
+pub fn put_number(out: &mut [u8], at: usize, v: u64, end: u8) -> usize
     requires { ⌜ at + 21 ≤ length (now out) ⌝ }
     ensures { λ r. ⌜ Written (now (out .entry)) at (decimal v ++ (end ∷ [])) (now (out .exit)) r ⌝ }
     ensures most { λ r. ⌜ r ≤ at + 21 ⌝ }
@@ -120,16 +122,45 @@ fn bits_of(gain: f64) -> u64
     f64::to_bits(gain)
 }
 
+// A segment's ends, the last fields of a line.
+pub fn put_ends(out: &mut [u8], at: usize, ends: Segment) -> usize
+    requires { ⌜ at + 42 ≤ length (now out) ⌝ }
+    ensures { λ r. ⌜ Written (now (out .entry)) at (line (decimal (ends .start .0) ∷ decimal (ends .stop .0) ∷ [])) (now (out .exit)) r ⌝ }
+    ensures most { λ r. ⌜ r ≤ at + 42 ⌝ }
+{
+    let next = put_number(out, at, ends.start.0 as u64, b'\t');
+    put_number(out, next, ends.stop.0 as u64, b'\n')
+}
+
+// A word with its tab, a row, its gain's bits in a segment, and the segment's ends.
+pub fn put_gain(
+    out: &mut [u8],
+    at: usize,
+    word: &[u8],
+    row: Position,
+    gain: f64,
+    ends: Segment,
+) -> usize
+    requires { ⌜ at + length (now word) + 80 ≤ length (now out) ⌝ }
+    ensures { λ r. ⌜ Written (now (out .entry)) at (now (word .entry) ++ line (decimal (row .0) ∷ hexOf 16 (toBits binary64 gain) ∷ decimal (ends .start .0) ∷ decimal (ends .stop .0) ∷ [])) (now (out .exit)) r ⌝ }
+    ensures most { λ r. ⌜ r ≤ at + length (now (word .entry)) + 80 ⌝ }
+{
+    let a = put_text(out, at, word);
+    let b = put_number(out, a, row.0 as u64, b'\t');
+    let c = put_hex(out, b, bits_of(gain));
+    let d = put_byte(out, c, b'\t');
+    put_ends(out, d, ends)
+}
+
 // A cut: its row, the gain's bits and the chosen record's ends.
 pub fn put_cut(out: &mut [u8], at: usize, cut: GainRecord) -> usize
     requires { ⌜ at + 84 ≤ length (now out) ⌝ }
     ensures { λ r. ⌜ Written (now (out .entry)) at (cutLine (toRecord cut)) (now (out .exit)) r ⌝ }
     ensures most { λ r. ⌜ r ≤ at + 84 ⌝ }
 {
-    let a = put_text(out, at, b"cut\t");
-    let b = put_number(out, a, cut.best_split.0 as u64, b'\t');
-    let c = put_hex(out, b, bits_of(cut.max_gain));
-    let d = put_byte(out, c, b'\t');
-    let e = put_number(out, d, cut.start.0 as u64, b'\t');
-    put_number(out, e, cut.stop.0 as u64, b'\n')
+    let row = cut.best_split;
+    let start = cut.start;
+    let stop = cut.stop;
+    let ends = Segment { start, stop };
+    put_gain(out, at, b"cut\t", row, cut.max_gain, ends)
 }

@@ -112,7 +112,6 @@ run (permuted deltas base s maximum P permutations) =
 run (seededBy n v) = segments (seeded n (v ∷ []))
 run (lengthOf r n) = least (lengthAnswer r n)
 run (guessesOf s start stop forbidden) = guessed (guessesAnswer (record { n = 10; shortest = s; forbidden = forbidden; start = start; stop = stop }))
-
 run (whyOfRow cells s t forbidden source row) =
     let settings : Settings = record { shortest = s; threshold = t; forbidden = forbidden; source = source } in
     why (whyCall (record { matrix = column cells; settings = settings; row = row; sums = room; records = room }) .answer)

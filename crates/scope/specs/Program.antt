@@ -1,4 +1,5 @@
 -- The program: the whole input's bytes to the whole output's bytes.
+use mathlib.Core.Path.{_≡_}
 use mathlib.Core.Bool.{Bool, cond, _||_, not}
 use mathlib.Core.List.{List, [], _∷_, _++_, map}
 use mathlib.Core.Option.{Option, none, some}
@@ -125,6 +126,11 @@ readLines (l ∷ p ∷ ps) k r = readLines (p ∷ ps) (k + 1) (next k r (readLin
 
 unfoldable pub readInput : List ℕ → Reading
 readInput input = readLines (parts lf input) 1 begun
+
+-- the input's lines make this deck, with rows or without
+pub data Reads (input : List ℕ) (deck : Deck) : Type 0 where
+  withRows : readInput input ≡ feeding deck → Reads input deck
+  withoutRows : readInput input ≡ barring deck → Reads input deck
 
 -- ---- "n at most 256, n*d at most 2,048, at most 64 forbidden pairs, cells whole -32768 to 32767, no layers; otherwise refusal 1, 4 or 5"
 abbrev pub isReading : ℤ → Bool

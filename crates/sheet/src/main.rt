@@ -1,28 +1,27 @@
 // The program: reads a deck from standard input; writes its sheet, its refusal, or the number of its first malformed line to standard output.
 // It only reads, calls and writes. `run` says that its text is the program's (crates/scope/specs/Program.antt) for the bytes that stand in `kept`, or, where the
 // input is longer than that, for those and some behind them. That they are the input's, and that its text is what is written, no contract can say: both are to be
-// read, here and in reading.rt. Nor can a program set its exit status: where it can't read or write it says so on standard error, and it writes no other sheet.
-mod reading;
-
-use answers::BARRED;
+// read, here and in crates/reading. Nor can a program set its exit status: where it can't read or write it says so on standard error, and it writes no other sheet.
 use answers::CUTS;
 use answers::RECORDS;
 use answers::ROWS;
-use answers::SUMS;
 use answers::TEXT;
 use libc::STDERR_FILENO;
 use libc::STDOUT_FILENO;
+use limits::SUMS;
+use line::BARRED;
 use line::MOST_CELLS;
 use reading::Input;
 use reading::KEPT;
 ghost use Prim.Native.Nat.{_≤_};
 ghost use lib.ListN.{length, take};
-ghost use Rattle.sheet.specs.Told.{Told};
+ghost use Rattle.demand.specs.Printed.{Answers};
+ghost use Rattle.reading.specs.Told.{Told};
 
 // The text for the input, and how many bytes it has: none where the input could not be read.
 fn run(kept: &mut [u8], out: &mut [u8; TEXT]) -> usize
     requires { ⌜ length (now kept) ≤ 65536 ⌝ }
-    ensures told { λ r. ⌜ Told (now (kept .exit)) (take r (now (out .exit))) ⌝ }
+    ensures told { λ r. ⌜ Told Answers (now (kept .exit)) (take r (now (out .exit))) ⌝ }
     ensures most { λ r. ⌜ r ≤ length (now (out .exit)) ⌝ }
 {
     let mut cells = [0.0; MOST_CELLS];

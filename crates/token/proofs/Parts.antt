@@ -1,12 +1,22 @@
--- A walk over bytes that ends a part at each separator is a walk over the parts. Assumes nothing.
+-- Walks over bytes: one byte more; and a walk that ends a part at each separator is a walk over the parts. Assumes nothing.
 use mathlib.Core.Path.{_≡_, refl, _∙_, ap}
 use mathlib.Core.Bool.{Bool, true, false, cond}
 use mathlib.Core.List.{List, [], _∷_, foldl}
-use Prim.Native.Nat.{ℕ, suc, _+_, _≤_}
+use Prim.Native.Nat.{ℕ, suc, _+_, _≤_, _<_}
+use native.Mathlib.Numerals.{add-one}
 use native.Mathlib.Omega.{arith}
-use lib.ListN.{length}
+use lib.ListN.{length, drop, getD, drop-of-length-le}
+use lib.Seq.{drop-cons}
 use lib.Dec.{eqb}
 use Rattle.scope.specs.Text.{parts, partsOn}
+
+-- what is walked from the byte at i on: that byte, and what is walked behind it; past the last byte nothing
+module _ {S : Type 0} (f : S → ℕ → S) (s : S) (bs : List ℕ) (i : ℕ) where
+  pub fold-next : i < length bs → foldl f s (drop i bs) ≡ foldl f (f s (getD bs i 0)) (drop (i + 1) bs)
+  fold-next h = rw (add-one, drop-cons bs i 0 h)
+
+  pub fold-none : length bs ≤ i → foldl f s (drop i bs) ≡ s
+  fold-none h = rw (drop-of-length-le bs h)
 
 -- there is always a first part
 pub record Some (ps : List (List ℕ)) : Type 0 where

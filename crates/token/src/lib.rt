@@ -2,7 +2,8 @@
 // A function follows its definition of specs/Walk.antt; proofs/ has what the walks come to.
 ghost use mathlib.Core.Path.{_≡_};
 ghost use Prim.Native.Nat.{_<_};
-ghost use Rattle.token.specs.Walk.{firstLetter, awaited as Walk·awaited, wordMore, valueMore, digitOf, digitMore, firstOfCell, cellMore, hexDigit, placeMore, hexMore, fresh as Walk·fresh, tokenMore};
+ghost use Rattle.token.specs.Walk.{firstLetter, awaited as Walk·awaited, wordMore, valueMore, digitOf, digitMore, firstOfCell, cellMore, hexDigit, placeMore, hexMore, fresh as Walk·fresh, tokenMore, asNumber};
+ghost use Rattle.scope.specs.Text.{number};
 
 // What the bytes so far are: nothing, a word of the program, the start of one, or neither.
 pub enum Word {
@@ -101,6 +102,20 @@ fn digit_more(g: Digits, b: u8) -> Digits
         return Digits::Wrong;
     }
     digit_of(g, (b - b'0') as usize)
+}
+
+// The digits of a whole field.
+pub fn number_of(field: &[u8]) -> Digits
+    ensures { λ r. ⌜ asNumber r ≡ number (now (field .entry)) ⌝ }
+{
+    let mut digits = Digits::Empty;
+    let mut i = 0;
+    while i < field.len() {
+        let next = digit_more(digits, field[i]);
+        digits = next;
+        i += 1;
+    }
+    digits
 }
 
 // A cell so far: nothing, a number, or what follows a minus.

@@ -21,6 +21,8 @@ pub struct Draft {
     /// Flat pairs.
     pub draws: Vec<u64>,
     pub w: u64,
+    /// The row that is asked about.
+    pub row: u64,
     pub cells: Vec<f64>,
     /// Both likelihood rows, the pick's curve, or the deltas.
     pub curves: Vec<Vec<f64>>,
@@ -92,6 +94,10 @@ impl Draft {
             "stored" => format!("{n} {d} {m} {barred} {} {cells}", self.lists()),
             "tree" => format!("{n} {d} {m} {value} {barred} {} {cells}", values(&self.layers)),
             "wild" => format!("{n} {d} {m} {value} {barred} {} {cells}", self.lists()),
+            "why" => {
+                let (lists, row) = (self.lists(), self.row);
+                format!("{n} {d} {m} {value} {barred} {lists} {row} {cells}")
+            }
             "order" => format!("{n} {d} {cells}"),
             "curve" => format!("{} {}", values(&self.curves[0]), values(&self.curves[1])),
             "pick" => format!("{n} {} {split} {}", self.ends(), values(&self.curves[0])),

@@ -3,18 +3,18 @@
 use crate::draft::Draft;
 use crate::draws;
 use crate::random::Random;
-use crate::values;
+use crate::{rows, spoil, values};
 
-pub const KINDS: [&str; 14] = [
-    "rel", "f32", "cand", "gain", "search", "stored", "tree", "wild", "order", "knn", "curve",
-    "pick", "guesses", "perm",
+pub const KINDS: [&str; 15] = [
+    "rel", "f32", "cand", "gain", "search", "stored", "tree", "wild", "why", "order", "knn",
+    "curve", "pick", "guesses", "perm",
 ];
 
 /// Those that take the prefix `closed`.
-pub const CLOSED: [&str; 7] = ["cand", "search", "tree", "wild", "pick", "guesses", "perm"];
+pub const CLOSED: [&str; 8] = ["cand", "search", "tree", "wild", "why", "pick", "guesses", "perm"];
 
 /// Those that take draws.
-pub const DRAWING: [&str; 2] = ["stored", "wild"];
+pub const DRAWING: [&str; 3] = ["stored", "wild", "why"];
 
 pub const FAR: [u64; 4] = [u64::MAX, u64::MAX - 1, 1 << 63, 1 << 40];
 
@@ -227,6 +227,14 @@ fn apart(draft: &mut Draft, stop: u64) {
     draft.cells[from as usize..(stop * draft.d) as usize].fill(1e4);
 }
 
+/// A run of great values that no gain cuts: there are infinite ones, and some that are no number.
+fn great(random: &mut Random, draft: &mut Draft) {
+    for cell in &mut draft.cells {
+        *cell = values::value(random, values::Sort::Huge);
+    }
+    draft.value = f64::INFINITY;
+}
+
 /// A run that is cut wherever it can be, mostly of parts of m rows; its room is often lent exactly.
 fn cut_everywhere(random: &mut Random, draft: &mut Draft) {
     draft.m = random.between(1, 5);
@@ -237,7 +245,8 @@ fn cut_everywhere(random: &mut Random, draft: &mut Draft) {
     }
     (draft.value, draft.forbidden) = (-1.0, None);
     if random.one_in(2) {
-        draft.short = Some((random.between(2, 4), random.of(&[0, 0, 1])));
+        let slices = spoil::slices(draft.kind);
+        draft.short = Some((random.between(2, slices), random.of(&[0, 0, 1])));
     }
 }
 
@@ -246,7 +255,7 @@ pub fn draft(random: &mut Random, kind: &'static str, closed_in: u64) -> Draft {
     let n = rows(random);
     let closed = CLOSED.contains(&kind) && random.one_in(closed_in);
     let mut draft = Draft { kind, n, closed, ..Draft::default() };
-    if matches!(kind, "gain" | "search" | "stored" | "tree" | "wild" | "order" | "knn") {
+    if matches!(kind, "gain" | "search" | "stored" | "tree" | "wild" | "why" | "order" | "knn") {
         let n = if matches!(kind, "order" | "knn") { n.min(100) } else { n };
         let d = columns(random, n);
         matrix(random, &mut draft, n, d);
@@ -282,7 +291,7 @@ pub fn draft(random: &mut Random, kind: &'static str, closed_in: u64) -> Draft {
             segment(random, &mut draft);
             draft.layers = values::layers(random);
         }
-        "tree" | "wild" => {
+        "tree" | "wild" | "why" => {
             segment(random, &mut draft);
             draft.value = threshold(random);
             draft.layers = values::layers(random);
@@ -303,6 +312,12 @@ pub fn draft(random: &mut Random, kind: &'static str, closed_in: u64) -> Draft {
     }
     if DRAWING.contains(&kind) {
         draws::lists(random, &mut draft);
+    }
+    if kind == rows::ASKING {
+        if random.one_in(16) {
+            great(random, &mut draft);
+        }
+        rows::ask(random, &mut draft);
     }
     draft
 }

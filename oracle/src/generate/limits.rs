@@ -17,9 +17,9 @@ pub fn at_limit(random: &mut Random, draft: &mut Draft) {
     draft.short = None;
     match draft.kind {
         "gain" | "search" => searched(random, draft),
-        "stored" | "wild" if !random.one_in(3) => drawn(random, draft),
+        "stored" | "wild" | "why" if !random.one_in(3) => drawn(random, draft),
         "stored" => layered(random, draft),
-        "tree" | "wild" => tree(random, draft),
+        "tree" | "wild" | "why" => tree(random, draft),
         "order" | "knn" => {
             let some = random.between(513, 1_022);
             let n = random.of(&[512, some, 1_023, 1_024]);

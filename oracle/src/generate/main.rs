@@ -7,6 +7,7 @@ mod draws;
 mod kinds;
 mod limits;
 mod random;
+mod rows;
 mod spoil;
 mod values;
 mod wide;
@@ -38,21 +39,35 @@ fn kind(random: &mut Random, sort: &'static str, kinds: &[&'static str]) -> &'st
     }
 }
 
-fn line(random: &mut Random, sort: &str, kind: &'static str, closed_in: u64) -> String {
+/// A line, or those of a run that is gone through.
+fn lines(random: &mut Random, sort: &str, kind: &'static str, closed_in: u64) -> Vec<String> {
     let mut draft = kinds::draft(random, kind, closed_in);
-    match sort {
-        EDGE => limits::at_edge(random, &mut draft),
-        WIDE => wide::at_wide(random, &mut draft),
-        LIMIT => limits::at_limit(random, &mut draft),
-        _ if random.one_in(4_000) => limits::at_limit(random, &mut draft),
-        _ => {
-            spoiled(random, &mut draft);
-            if sort == UNKNOWN || random.one_in(250) {
-                return spoil::garble(random, kind, &draft.line());
-            }
+    if at_limit(random, sort, &mut draft) {
+        if kind == rows::ASKING {
+            rows::ask(random, &mut draft);
         }
+        return vec![draft.line()];
     }
-    draft.line()
+    if sort != UNKNOWN && rows::goes_through(random, &draft) {
+        return rows::lines(&mut draft);
+    }
+    spoiled(random, &mut draft);
+    match sort == UNKNOWN || random.one_in(250) {
+        true => vec![spoil::garble(random, kind, &draft.line())],
+        false => vec![draft.line()],
+    }
+}
+
+/// Whether a case is made one at a limit: where its sort says so, and now and then of any other.
+fn at_limit(random: &mut Random, sort: &str, draft: &mut Draft) -> bool {
+    match sort {
+        EDGE => limits::at_edge(random, draft),
+        WIDE => wide::at_wide(random, draft),
+        LIMIT => limits::at_limit(random, draft),
+        _ if random.one_in(4_000) => limits::at_limit(random, draft),
+        _ => return false,
+    }
+    true
 }
 
 /// One or two refusals for some cases; for more of a kind with draws, which has the most.
@@ -98,10 +113,14 @@ fn main() {
     }
     let mut random = Random(seed);
     let mut output = std::io::BufWriter::new(std::io::stdout().lock());
-    for _ in 0..count {
+    let mut left = count as usize;
+    while left > 0 {
         let sort = random.of(&sorts);
         let kind = kind(&mut random, sort, &kinds);
-        if writeln!(output, "{}", line(&mut random, sort, kind, closed_in)).is_err() {
+        let mut lines = lines(&mut random, sort, kind, closed_in);
+        lines.truncate(left);
+        left -= lines.len();
+        if lines.iter().any(|line| writeln!(output, "{line}").is_err()) {
             return;
         }
     }

@@ -3,7 +3,7 @@
 use crate::draft::Draft;
 use crate::kinds::{permutations, CLOSED, DRAWING, FAR};
 use crate::random::Random;
-use crate::values;
+use crate::{rows, values};
 
 /// The refusals that a kind can give.
 pub fn numbers(kind: &str) -> &'static [u64] {
@@ -15,6 +15,7 @@ pub fn numbers(kind: &str) -> &'static [u64] {
         "stored" => &[1, 2, 4, 5, 6, 6, 7, 7, 8],
         "tree" => &[1, 2, 3, 4, 5, 6, 6, 7, 7],
         "wild" => &[1, 2, 3, 4, 5, 6, 6, 7, 7, 8],
+        "why" => &[1, 2, 3, 4, 5, 6, 6, 7, 7, 8, 8],
         "order" => &[1, 4, 7],
         "curve" => &[4, 7, 12],
         "pick" => &[1, 2, 5, 8, 9, 10, 12],
@@ -28,7 +29,7 @@ pub fn numbers(kind: &str) -> &'static [u64] {
 pub fn slices(kind: &str) -> u64 {
     match kind {
         "cand" | "gain" | "search" | "curve" => 1,
-        "order" | "stored" => 2,
+        "order" | "stored" | "why" => 2,
         "knn" => 3,
         "tree" | "wild" => 4,
         _ => 0,
@@ -61,6 +62,7 @@ pub fn spoil(random: &mut Random, draft: &mut Draft, number: u64) {
             let slice = random.between(1, slices(draft.kind));
             draft.short = Some((slice, random.of(&[1, 1, 1, 2, 3, 1_000, u64::MAX])));
         }
+        8 if draft.kind == rows::ASKING && random.one_in(2) => rows::outside(random, draft),
         8 if DRAWING.contains(&draft.kind) => draw_outside(random, draft),
         8 => segment(random, draft),
         9 => {

@@ -1,9 +1,9 @@
 //! The answer line of a case.
 
-use crate::{original, rules};
+use crate::{original, rules, why};
 use protocol::{
     Cand, Capacities, Case, Curve, Gain, Guesses, Knn, Line, Order, Perm, Pick, Rel, Search,
-    Stored, Tree, Wild, F32,
+    Stored, Tree, Why, Wild, F32,
 };
 use std::panic::{catch_unwind, AssertUnwindSafe};
 
@@ -61,6 +61,7 @@ fn values(case: &Case) -> String {
         Case::Stored(case) => Stored::answer(&original::stored(case)),
         Case::Tree(case) => Tree::answer(&original::tree(case)),
         Case::Wild(Wild(case)) => Wild::answer(&original::tree(case)),
+        Case::Why(case) => Why::answer(why::why(case)),
         Case::Order(Order { matrix }) => {
             let (ordering, distances) = original::order(matrix);
             Order::answer(&ordering, &distances)

@@ -1,8 +1,9 @@
-//! The text program of document 01 ("The program"): a deck's bytes in, the sheet's bytes out. The
-//! grammar and the refusals are a second reading of that section; the tree is the Rust's.
+//! The text programs: a deck's bytes in, the sheet's bytes out, as document 01 has it ("The program"); or,
+//! with a row, why it is on the sheet or is not. The grammar and the refusals are a second reading of that
+//! section; the tree is the Rust's.
 
-use crate::original;
-use protocol::{bits, value, Grown, Lists, Matrix, Shortest, Stored, Tree};
+use crate::{original, why};
+use protocol::{bits, value, Grown, Lists, Matrix, Shortest, Stored, Tree, Why};
 
 const LONGEST_LINE: usize = 1_024;
 const MOST_DIGITS: usize = 10;
@@ -80,13 +81,13 @@ impl Deck {
         [one, two, three, four, five].iter().position(|applies| *applies).map(|place| place + 1)
     }
 
-    fn grown(&self) -> Grown {
+    fn tree(&self) -> Tree {
         let cells = self.cells.iter().map(|cell| *cell as f64).collect();
         let matrix = Matrix { n: self.n, d: self.d, cells };
         let forbidden = Some(self.pairs.concat());
         let shortest = Shortest { m: self.m, closed: false };
         let stored = Stored { matrix, shortest, forbidden, lists: Lists::default() };
-        original::tree(&Tree { stored, threshold: self.threshold })
+        Tree { stored, threshold: self.threshold }
     }
 }
 
@@ -104,15 +105,27 @@ fn read(input: &[u8]) -> Result<Deck, usize> {
     deck.ok_or(1)
 }
 
-pub fn sheet(input: &[u8]) -> String {
+fn refused(number: usize) -> String {
+    format!("refused\t{number}\n")
+}
+
+/// What is written of an input, `answer` being for a deck that is admitted.
+fn written(input: &[u8], answer: impl FnOnce(Deck) -> String) -> String {
     let deck = match read(input) {
         Ok(deck) => deck,
         Err(line) => return format!("bad\t{line}\n"),
     };
-    if let Some(number) = deck.refusal() {
-        return format!("refused\t{number}\n");
+    match deck.refusal() {
+        None => answer(deck),
+        Some(number) => refused(number),
     }
-    let grown = deck.grown();
+}
+
+pub fn sheet(input: &[u8]) -> String {
+    written(input, |deck| listed(&original::tree(&deck.tree())))
+}
+
+fn listed(grown: &Grown) -> String {
     let mut sheet = format!("cuts\t{}\n", grown.cuts.len());
     for row in &grown.cuts {
         let mut cut = grown.nodes.iter().filter(|node| node.significant);
@@ -122,4 +135,21 @@ pub fn sheet(input: &[u8]) -> String {
         sheet += &format!("cut\t{row}\t{gain}\t{}\t{}\n", choice.start, choice.stop);
     }
     sheet + &format!("nodes\t{}\n", grown.nodes.len())
+}
+
+/// The row that a word is: a number as a deck has it.
+pub fn row(word: &[u8]) -> Option<usize> {
+    number(word)
+}
+
+/// The reason's word, the row, what goes with the reason, and the segment's ends.
+pub fn why(input: &[u8], row: usize) -> String {
+    written(input, |deck| {
+        if row >= deck.n {
+            return refused(8);
+        }
+        let mut words = why::why(&Why { tree: deck.tree(), row }).words();
+        words.insert(1, row.to_string());
+        words.join("\t") + "\n"
+    })
 }

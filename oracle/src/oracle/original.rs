@@ -13,7 +13,7 @@ use changeforest::{
 use ndarray::{Array1, Array2, ArrayView2};
 use protocol::{
     Cand, Case, Forbidden, Grown, Guesses, Matrix, Node, Perm, Pick, Record, Rel, Search, Segment,
-    Shortest, Stored, Tree, Wild,
+    Shortest, Stored, Tree, Why, Wild,
 };
 use std::panic::catch_unwind;
 
@@ -302,7 +302,8 @@ pub fn own(case: &Case) -> Vec<(usize, bool)> {
         }
         Case::Stored(stored)
         | Case::Tree(Tree { stored, .. })
-        | Case::Wild(Wild(Tree { stored, .. })) => match odd(&stored.lists.draws) {
+        | Case::Wild(Wild(Tree { stored, .. }))
+        | Case::Why(Why { tree: Tree { stored, .. }, .. }) => match odd(&stored.lists.draws) {
             true => vec![],
             false => own_list(&stored.forbidden),
         },

@@ -1,11 +1,11 @@
-//! The refusals: a second reading of document 01 ("Refusal numbers", "Sizes"), of the closed end and the
-//! draws in document 02 and of the decisions that go with them, made for the oracle alone. Nothing here
-//! is taken from the Rust, which has few refusals, nor from the code that the oracle judges. Rule by
-//! rule, in number order.
+//! The refusals: a second reading of document 01 ("Refusal numbers", "Sizes"), of the closed end, the
+//! draws and the tool for a row in document 02 and of the decisions that go with them, made for the oracle
+//! alone. Nothing here is taken from the Rust, which has few refusals, nor from the code that the oracle
+//! judges. Rule by rule, in number order.
 
 use protocol::{
     Cand, Case, Curve, Forbidden, Gain, Guesses, Knn, Lists, Matrix, Perm, Pick, Rel, Segment,
-    Shortest, Stored, Wild,
+    Shortest, Stored, Tree, Why, Wild,
 };
 
 const MOST_ROWS: usize = 4_096;
@@ -79,7 +79,7 @@ fn not_finite(values: &[f64]) -> bool {
 // 5: "forbidden list of odd length, or a pair with a > b"; "also for an odd draw list" (document 02). A
 // forbidden list that isn't given isn't looked at.
 
-fn pairs(forbidden: &Forbidden) -> impl Iterator<Item = (usize, usize)> + '_ {
+pub fn pairs(forbidden: &Forbidden) -> impl Iterator<Item = (usize, usize)> + '_ {
     let list = forbidden.as_deref().unwrap_or(&[]);
     list.chunks_exact(2).map(|pair| (pair[0], pair[1]))
 }
@@ -109,7 +109,7 @@ fn both(lists: &Lists) -> bool {
 
 // 8: "start > stop or stop > n; a given split (gain, kNN) below start or above stop; for kNN also
 // start = stop"; "also for a draw with stop > n" (document 02), any of the list. A draw with start > stop
-// is passed over.
+// is passed over. "8 for a row at or past n" (document 02).
 
 fn outside(n: usize, start: usize, stop: usize) -> bool {
     start > stop || stop > n
@@ -121,6 +121,10 @@ fn split_outside(start: usize, stop: usize, split: usize) -> bool {
 
 fn draw_outside(n: usize, draws: &[usize]) -> bool {
     draws.chunks_exact(2).any(|draw| draw[1] > n)
+}
+
+fn row_outside(n: usize, row: usize) -> bool {
+    row >= n
 }
 
 // 9: "2*m >= stop-start"; permutation counts "for 2*m >= L". With a closed end "2*m > stop-start", and
@@ -220,7 +224,7 @@ fn measured(verdict: Verdict, cells: &Matrix, most: usize) -> Verdict {
     verdict.rule(1, matrix(cells, most)).rule(4, not_finite(&cells.cells))
 }
 
-/// A run, and what is stored before a tree is grown. A tree's threshold is judged beside it, by 3.
+/// A run, and what is stored before a tree is grown.
 fn stored(verdict: Verdict, case: &Stored) -> Verdict {
     let Stored { matrix, shortest, forbidden, lists } = case;
     measured(verdict, matrix, MOST_ROWS)
@@ -228,6 +232,11 @@ fn stored(verdict: Verdict, case: &Stored) -> Verdict {
         .rule(5, bad_list(forbidden) || odd_draws(&lists.draws))
         .rule(6, bad_layers(&lists.layers) || both(lists) || lists.w > MOST_DRAWN)
         .rule(8, draw_outside(matrix.n, &lists.draws))
+}
+
+/// That, and a tree's threshold.
+fn grown(verdict: Verdict, case: &Tree) -> Verdict {
+    stored(verdict, &case.stored).rule(3, threshold(case.threshold))
 }
 
 fn picked(verdict: Verdict, case: &Pick) -> Verdict {
@@ -252,8 +261,9 @@ pub fn judge(case: &Case, short: bool) -> Verdict {
             .rule(8, outside(matrix.n, *start, *stop) || split_outside(*start, *stop, *split)),
         Case::Search(case) => searched(measured(verdict, &case.matrix, MOST_ROWS), &case.segment),
         Case::Stored(case) => stored(verdict, case),
-        Case::Tree(case) | Case::Wild(Wild(case)) => {
-            stored(verdict, &case.stored).rule(3, threshold(case.threshold))
+        Case::Tree(case) | Case::Wild(Wild(case)) => grown(verdict, case),
+        Case::Why(Why { tree, row }) => {
+            grown(verdict, tree).rule(8, row_outside(tree.stored.matrix.n, *row))
         }
         Case::Order(case) => measured(verdict, &case.matrix, MOST_NEIGHBOUR_ROWS),
         Case::Knn(Knn { matrix, start, stop, split }) => {

@@ -13,6 +13,7 @@ mod segments;
 mod text;
 mod tree;
 mod two_step;
+mod why;
 
 pub use capacities::Capacities;
 pub use curves::{Curve, Perm};
@@ -25,6 +26,7 @@ pub use segments::{Lists, Record, Stored};
 pub use text::{bits, same};
 pub use tree::{Grown, Node, Tree, Wild};
 pub use two_step::{Guesses, Pick};
+pub use why::{Reason, Told, Why};
 
 use room::Short;
 
@@ -72,6 +74,7 @@ kinds! {
     b"stored" Stored,
     b"tree" Tree,
     b"wild" Wild,
+    b"why" Why,
     b"order" Order,
     b"knn" Knn,
     b"curve" Curve,

@@ -92,6 +92,11 @@ impl Capacities {
 }
 
 impl Slice {
+    /// How many entries are asked; none where that has no meaning or passes the capacity.
+    pub fn asked(&self) -> usize {
+        self.asked.filter(|asked| *asked <= self.capacity).map_or(0, |asked| asked as usize)
+    }
+
     /// How many entries are lent, `less` being what `short` says of this slice.
     pub(crate) fn lent(&self, less: Option<usize>) -> usize {
         let Some(asked) = self.asked else { return self.capacity as usize };

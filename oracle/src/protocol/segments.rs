@@ -25,7 +25,7 @@ impl Stored {
         fields: &mut Fields<'a>,
         size: (usize, usize),
         shortest: Shortest,
-        lists: fn(&mut Fields<'a>) -> Option<Lists>,
+        lists: impl FnOnce(&mut Fields<'a>) -> Option<Lists>,
     ) -> Option<Self> {
         let (forbidden, lists) = (fields.forbidden()?, lists(fields)?);
         Some(Stored { matrix: fields.matrix(size)?, shortest, forbidden, lists })

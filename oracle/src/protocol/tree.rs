@@ -12,9 +12,9 @@ pub struct Tree {
 
 impl Tree {
     /// N D M THRESHOLD F, the lists that the kind takes, CELLS.
-    fn with<'a>(
+    pub(crate) fn with<'a>(
         fields: &mut Fields<'a>,
-        lists: fn(&mut Fields<'a>) -> Option<Lists>,
+        lists: impl FnOnce(&mut Fields<'a>) -> Option<Lists>,
     ) -> Option<Self> {
         let size = fields.size()?;
         let (shortest, threshold) = (fields.shortest()?, fields.value()?);

@@ -11,6 +11,7 @@ mod outcome;
 mod segments;
 mod tree;
 mod two_step;
+mod why;
 
 use outcome::Outcome;
 use protocol::{Capacities, Case, Line};
@@ -31,6 +32,7 @@ fn called(line: &Line) -> Outcome {
         Case::Stored(case) => case.call(line),
         Case::Tree(case) => case.call(line),
         Case::Wild(case) => case.call(line),
+        Case::Why(case) => case.call(line),
         Case::Order(case) => case.call(line),
         Case::Knn(case) => case.call(line),
         Case::Curve(case) => case.call(line),

@@ -5,14 +5,14 @@ use protocol::Line;
 
 pub const TOO_LARGE: &str = "too large";
 
-const NO_ROOM: u32 = 7;
+pub const NO_ROOM: u32 = 7;
 
 pub struct Outcome {
     /// The answer's values, or why there are none.
     pub told: Result<String, Refusal>,
     /// Whether all lent entries beyond those told are as they were.
     pub kept: bool,
-    /// Whether the call with room of its own answers the same.
+    /// Whether the calls that are run beside it answer the same.
     pub agrees: bool,
 }
 
@@ -37,11 +37,16 @@ impl Outcome {
     }
 }
 
+/// Whether a call answers, or is refused by no number lower than this.
+pub fn no_lower<T>(answer: &Result<T, Refusal>, number: u32) -> bool {
+    answer.as_ref().err().is_none_or(|why| why.number() >= number)
+}
+
 /// Whether the call with room of its own answers what the call over lent room does. It always has
 /// room enough: where more was asked than was lent it answers, or finds a refusal that comes later.
 pub fn agree<T: PartialEq>(lent: Result<T, Refusal>, owned: Result<T, Refusal>) -> bool {
     match lent {
-        Err(why) if why.number() == NO_ROOM => owned.err().is_none_or(|why| why.number() > NO_ROOM),
+        Err(why) if why.number() == NO_ROOM => no_lower(&owned, NO_ROOM + 1),
         _ => lent == owned,
     }
 }

@@ -1,11 +1,11 @@
 use crate::lent::{nodes, numbers, values, Lent};
 use crate::mean::{as_gain_leaves, matrix, sums_of};
-use crate::outcome::agree;
+use crate::outcome::{agree, no_lower};
 use crate::segments::{lists, record, segments, settings, stored, Records};
 use crate::{Call, Outcome};
 use haspgarnet_changeforest::lent::TreeRoom;
 use haspgarnet_changeforest::{lent, owned, Counts, Node, Refusal, Settings};
-use protocol::{Grown, Line, Record, Stored, Tree, Wild};
+use protocol::{Capacities, Grown, Kind, Line, Record, Slice, Stored, Tree, Wild};
 
 struct Room {
     sums: Lent<f64>,
@@ -15,12 +15,12 @@ struct Room {
 }
 
 impl Room {
-    fn of(line: &Line) -> Room {
+    fn of(lengths: &[usize]) -> Room {
         Room {
-            sums: values(line.lent(1)),
-            records: Records::of(line.lent(2)),
-            nodes: nodes(line.lent(3)),
-            cuts: numbers(line.lent(4)),
+            sums: values(lengths[0]),
+            records: Records::of(lengths[1]),
+            nodes: nodes(lengths[2]),
+            cuts: numbers(lengths[3]),
         }
     }
 
@@ -73,24 +73,35 @@ fn owned_grown(tree: haspgarnet_changeforest::Tree) -> Grown {
 /// Whether the call that stores alone answers what the tree begins with. It takes no threshold, and has
 /// room enough where nodes or cuts alone are short: where the tree is refused by 3 or 7 it answers, or is
 /// refused by no lower number.
-fn begins_with(grown: &Result<Grown, Refusal>, stored: Result<Vec<Record>, Refusal>) -> bool {
+fn begins_with(grown: &Result<Grown, Refusal>, stored: &Result<Vec<Record>, Refusal>) -> bool {
     match (grown, stored) {
         (Ok(grown), Ok(stored)) => {
             let first = grown.records.get(..grown.stored);
-            first.is_some_and(|first| Stored::answer(first) == Stored::answer(&stored))
+            first.is_some_and(|first| Stored::answer(first) == Stored::answer(stored))
         }
-        (Err(why), stored) if matches!(why.number(), 3 | 7) => {
-            stored.err().is_none_or(|other| other.number() >= why.number())
-        }
+        (Err(why), stored) if matches!(why.number(), 3 | 7) => no_lower(stored, why.number()),
         (grown, stored) => grown.as_ref().err() == stored.as_ref().err(),
     }
 }
 
+/// What a tree is cut with.
+pub fn cutting(case: &Tree) -> Settings<'_> {
+    Settings { threshold: case.threshold, ..settings(&case.stored) }
+}
+
+/// The tree of a case, grown by the lent call in room of its own, as long as is asked.
+pub fn grown_apart(case: &Tree) -> Result<Grown, Refusal> {
+    let asked: Vec<usize> = case.lends(&Capacities::WIDE).iter().map(Slice::asked).collect();
+    let mut room = Room::of(&asked);
+    let (readings, settings) = (matrix(&case.stored.matrix), cutting(case));
+    let counts = lent::tree(readings, &settings, lists(&case.stored), room.lend());
+    counts.map(|counts| room.grown(counts))
+}
+
 /// Grows the tree of a case, and tells it in the words of its kind.
 fn grown(case: &Tree, line: &Line, words: fn(&Grown) -> String) -> Outcome {
-    let readings = matrix(&case.stored.matrix);
-    let settings = Settings { threshold: case.threshold, ..settings(&case.stored) };
-    let mut room = Room::of(line);
+    let (readings, settings) = (matrix(&case.stored.matrix), cutting(case));
+    let mut room = Room::of(&[1, 2, 3, 4].map(|number| line.lent(number)));
     let counts = lent::tree(readings, &settings, lists(&case.stored), room.lend());
     let kept = match counts {
         Err(_) => room.kept_past(0, 0, 0, 0),
@@ -109,7 +120,7 @@ fn grown(case: &Tree, line: &Line, words: fn(&Grown) -> String) -> Outcome {
     let (stored, stored_kept) = stored(&case.stored, line);
     Outcome {
         kept: kept && stored_kept,
-        agrees: agrees && begins_with(&grown, stored),
+        agrees: agrees && begins_with(&grown, &stored),
         told: grown.map(|grown| words(&grown)),
     }
 }

@@ -78,8 +78,7 @@ explain-requires : tie.Need-explain-requires
 explain-requires c κs =
     let s = c .before .before .before .before .before .before .before .before .before .before .before .before .before .before .before .before .before .before .before .before .before .before .before .before .before in
     let w = clean (c .before .before .before .before .before .before .before .before .before .before .before .before .before .before .before) in
-    let st = standing (c .before .before .before) in
-    (
+    let st = standing (c .before .before .before) in (
       st .sized (w .lengths .1),
       w .row-within,
       record {

@@ -1,8 +1,8 @@
 -- `run` meets its contract: no text, or that of the bytes that were read.
 use mathlib.Core.Path.{refl}
 use native.Mathlib.Omega.{arith}
-use Rattle.sheet.specs.Told.{nothing}
-use Rattle.sheet.proofs.Lots.{told-of}
+use Rattle.reading.specs.Told.{nothing}
+use Rattle.reading.proofs.Lots.{told-of}
 use borrow.Author.Needs.{needs}
 use Rattle.sheet.proofs.run.Statement.{statement}
 use Rattle.sheet.proofs.run.Tie as tie

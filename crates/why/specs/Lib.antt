@@ -1,0 +1,2 @@
+-- The definitions that the contracts of `why` cite.
+pub mod Asked

@@ -1,0 +1,5 @@
+-- The laws that belong to no one function.
+pub mod Limits
+pub mod Told
+pub mod Printed
+pub mod Said

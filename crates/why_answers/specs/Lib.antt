@@ -1,0 +1,2 @@
+-- The definitions that the contracts of `why_answers` cite.
+pub mod Answered
