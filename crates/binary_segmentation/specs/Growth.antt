@@ -1,7 +1,7 @@
 -- What growing leaves in lent memory: records, nodes and cuts, each appended to those before. Assumes nothing.
 use mathlib.Core.Path.{_≡_}
 use mathlib.Core.Bool.{true}
-use mathlib.Core.List.{List, [], map}
+use mathlib.Core.List.{List, map}
 use Prim.Native.Nat.{ℕ, _+_, _-_, _*_, _/_, _≤_, _<_}
 use lib.Ieee.{Float, lt}
 use lib.ListN.{length}

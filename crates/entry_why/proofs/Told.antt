@@ -17,7 +17,7 @@ use Rattle.reasons.proofs.Answers.{to-from}
 use Rattle.entry_why.specs.declared.Explained.the-variants as answer
 use Rattle.entry_why.specs.Answers.{explainedOf}
 use Rattle.entry_why.specs.Left.{whyAsked, WhyLeft}
-use Rattle.entry_why.proofs.Clean.{WhyClean, why-clean}
+use Rattle.entry_why.proofs.Clean.{why-clean}
 
 module _ (x : Matrix) (s : Settings) (row : ℕ) (before : Slices) where
   abbrev a : WhyAsked

@@ -16,7 +16,7 @@ use Rattle.control.proofs.Clean.{passed}
 use Rattle.limits.specs.Held.{orElse}
 use Rattle.limits.proofs.Held.{first-else}
 use Rattle.limits.proofs.Clean.{DeckClean, run-passes}
-use Rattle.why_answers.specs.Answered.{rowAsked}
+use Rattle.why_answers.specs.Answered.{askedHeld}
 
 module _ (deck : Deck) (x : ℕ) where
   -- the row's own number
@@ -24,7 +24,7 @@ module _ (deck : Deck) (x : ℕ) where
   past = firstOf (no8-row (deck .n) x ∷ [])
 
   -- what the deck's own limits leave, the call takes, but for the row
-  pub row-left : DeckClean deck → whyRefusal (rowAsked x (deckMatrix deck) (deckSettings deck)) ≡ past
+  pub row-left : DeckClean deck → whyRefusal (askedHeld x (deckMatrix deck) (deckSettings deck)) ≡ past
   unfolding whyRefusal layersTotal every anyPast pairsOf
   row-left clean = run-passes deck clean (no7 0 0 ∷ no8-draws (deck .n) nothing ∷ no8-row (deck .n) x ∷ [])
 

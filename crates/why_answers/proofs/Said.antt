@@ -17,7 +17,7 @@ use Rattle.deck.specs.Walk.{start, run, fed, readOf}
 use Rattle.deck.specs.Meaning.{readText, Said}
 use Rattle.deck.proofs.Said.{Gives, said, lots-said}
 use Rattle.limits.proofs.Held.{text-same}
-use Rattle.why_answers.specs.Answered.{rowAsked, rowNumber, whyText}
+use Rattle.why_answers.specs.Answered.{askedHeld, rowNumber, whyText}
 use Rattle.why_answers.proofs.Limits.{past, row-left, asked-is}
 use Rattle.why_answers.proofs.Printed.{answers}
 
@@ -26,7 +26,7 @@ module _ (x : ℕ) where
   unfolding whyText rowNumber
   gives cells₀ forbidden₀ room g cells forbidden r told =
       let deck = told .deck in
-      text-same cells₀ forbidden₀ room g cells forbidden r told (λ (m : Matrix) (s : Settings). whyRefusal (rowAsked x m s)) (λ (m : Matrix) (s : Settings). whyLine x (whyOf (runOf m s) x)) (past deck x) (row-left deck x)
+      text-same cells₀ forbidden₀ room g cells forbidden r told (λ (m : Matrix) (s : Settings). whyRefusal (askedHeld x m s)) (λ (m : Matrix) (s : Settings). whyLine x (whyOf (runOf m s) x)) (past deck x) (row-left deck x)
       ∙ ap (λ (k : ℕ). orRefused k (whyLine x (whyOf (deckRun deck) x))) (asked-is deck x)
 
   -- THE LAW: of what stands at the start of a slice

@@ -19,11 +19,11 @@ use Rattle.entry_why.specs.declared.Explained.{Explained}
 use Rattle.entry_why.specs.declared.Explained.the-variants as explained
 
 -- what is asked of the row x, in the room that is lent: sums, and no records
-abbrev pub rowAsked : ℕ → Matrix → Settings → WhyAsked
-rowAsked x m s = record { matrix = m; settings = s; row = x; sums = 2112; records = 0 }
+abbrev pub askedHeld : ℕ → Matrix → Settings → WhyAsked
+askedHeld x m s = record { matrix = m; settings = s; row = x; sums = 2112; records = 0 }
 
 unfoldable pub rowNumber : ℕ → Given → List Float → List ℕ → ℕ
-rowNumber x g cells forbidden = whyRefusal (rowAsked x (matrixHeld g cells) (settingsHeld g forbidden))
+rowNumber x g cells forbidden = whyRefusal (askedHeld x (matrixHeld g cells) (settingsHeld g forbidden))
 
 -- ---- what is told: the definitions' answer, which is so
 pub record Tells (x : ℕ) (g : Given) (cells : List Float) (forbidden : List ℕ) (r : Explained) : Type 0 where
