@@ -23,7 +23,7 @@ placeOf x (leaf start stop o) = uncutIn (record { start = start; stop = stop })
 placeOf x (node start stop c l r) =
     cond (eqb x (c .split)) (atCut (record { start = start; stop = stop })) (cond (ltb x (c .split)) (placeOf x l) (placeOf x r))
 
--- ---- "too near an end": below start+m, or, as x+m < stop allows, not so; "In E3, too near at the right means beyond stop-m" with the closed end
+-- ---- "too near an end": x < start+m, or not x+m < stop; with the closed end "too near at the right means beyond stop-m"
 unfoldable pub isNear : Shortest → Segment → ℕ → Bool
 isNear s g x = ltb x (g .start + s .m) || not (ltb (x + s .m) (endOf s (g .stop)))
 

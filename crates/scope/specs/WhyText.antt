@@ -9,7 +9,7 @@ use Rattle.scope.specs.Text.{bytes, number, decimal, hexOf, line}
 use Rattle.scope.specs.Program.{Deck, deckTests, deckRun, orRefused, readingText, readInput}
 use Rattle.scope.specs.Why.{Why, cut, tooNear, barred, noNumber, notAbove, whyOf, no8-row}
 
--- the arguments: "exactly one", "a number of the deck's grammar"
+-- the row is the one argument, a number as decks have it: 1 to 10 digits, no leading zero, no sign
 abbrev pub rowAsked : List (List ℕ) → Option ℕ
 rowAsked [] = none
 rowAsked (a ∷ []) = number a
@@ -19,7 +19,7 @@ rowAsked (a ∷ b ∷ more) = none
 abbrev pub ends : Segment → List (List ℕ)
 ends g = decimal (g .start) ∷ decimal (g .stop) ∷ []
 
--- "`cut ROW START STOP`, `near ROW START STOP`, `barred ROW A B START STOP`, `nan ROW START STOP`, `below ROW GAINBITS START STOP`"
+-- the reason's word, the row, what goes with the reason, and the segment's ends
 abbrev pub whyLine : ℕ → Why → List ℕ
 whyLine x (cut g) = line (bytes "cut" ∷ decimal x ∷ ends g)
 whyLine x (tooNear g) = line (bytes "near" ∷ decimal x ∷ ends g)
@@ -27,7 +27,7 @@ whyLine x (barred a b g) = line (bytes "barred" ∷ decimal x ∷ decimal a ∷ 
 whyLine x (noNumber g) = line (bytes "nan" ∷ decimal x ∷ ends g)
 whyLine x (notAbove gain g) = line (bytes "below" ∷ decimal x ∷ hexOf 16 (toBits binary64 gain) ∷ ends g)
 
--- "`refused N`, `bad N` as the sheet's program (a row at or past n: `refused 8`)"
+-- a deck is refused as for its sheet, and then by 8 for a row at or past n
 abbrev pub askedTests : Deck → ℕ → List Test
 askedTests deck x = deckTests deck ++ (no8-row (deck .n) x ∷ [])
 
