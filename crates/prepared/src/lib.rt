@@ -1,5 +1,5 @@
 // A call for the tree, up to its growing: judged, and where nothing is refused the prefix sums and the stored segments' records stored.
-// Inside the library.
+// What any run is refused for first stands here as well. Inside the library.
 use control::Settings;
 ghost use mathlib.Core.Path.{_≡_};
 ghost use Rattle.scope.specs.Refusals.{firstOf};
