@@ -58,3 +58,11 @@ passes (test true zero ∷ xs) ys h e = absurd h
 passes (test true (suc k) ∷ xs) ys h e = absurd (omega arith)
 passes (test false zero ∷ xs) ys h e = absurd h
 passes (test false (suc k) ∷ xs) ys h e = passes xs ys h e
+
+-- where neither gives a number
+pub both-pass : (xs ys : List Test) → T (Numbered xs) → firstOf (xs ++ ys) ≡ 0 → (firstOf xs ≡ 0) × (firstOf ys ≡ 0)
+both-pass [] ys h e = (refl, e)
+both-pass (test true zero ∷ xs) ys h e = absurd h
+both-pass (test true (suc k) ∷ xs) ys h e = absurd (omega arith)
+both-pass (test false zero ∷ xs) ys h e = absurd h
+both-pass (test false (suc k) ∷ xs) ys h e = both-pass xs ys h e

@@ -22,11 +22,11 @@ use Rattle.scope.proofs.Candidates.{or-false, free-of}
 use Rattle.demand.specs.Reached.{ruling, isCut, CutAt}
 use Rattle.demand.specs.Offered.{own}
 use Rattle.demand.specs.Grows.{Grows}
-use Rattle.demand.specs.Because.{CutOf, HeldBy, Near, FirstBarring, here, later, Because, Explained}
+use Rattle.demand.specs.Because.{HeldBy, Near, FirstBarring, here, later, Because, Justified}
 use Rattle.demand.proofs.Cut.{offered-cut, cut-far}
 use Rattle.demand.proofs.Sheet.{on-sheet}
 use Rattle.demand.proofs.Made.{grown-grows}
-use Rattle.demand.proofs.Place.{cut-place, held-place, place-cut, place-held}
+use Rattle.demand.proofs.Place.{cut-of, of-cut, cut-place, held-place, place-cut, place-held}
 
 -- ---- too near an end
 module _ (s : Shortest) (g : Segment) (x : ℕ) where
@@ -173,12 +173,7 @@ module _ (q : Run) (least : 1 ≤ q .shortest .m) (rows : 1 ≤ q .n) where
   only x (notAbove gain g) (h, n, f, v, e, t) = rw (held-why x g h, not-near (q .shortest) g x n, so-free x (q .forbidden) f, ← v, e)
 
   is-cut : (x : ℕ) → CutAt q x → (g : Segment) × (whyOf q x ≡ Why.cut g)
-  is-cut x c =
-      let g : Segment = record { start = c .chosen .start; stop = c .chosen .stop } in
-      (g, sym (only x (Why.cut g) (record { by = c .by; reached = c .chosen .reached; is = c .chosen .is; at = c .at })))
-
-  cut-is : (x : ℕ) (g : Segment) → CutOf q x g → CutAt q x
-  cut-is x g c = record { by = c .by; chosen = record { start = g .start; stop = g .stop; reached = c .reached; is = c .is }; at = c .at }
+  is-cut x c = let (g, k) = cut-of q least x c in (g, sym (only x (Why.cut g) k))
 
   first-near : (w : Why) → Because q 0 w → (g : Segment) × (w ≡ tooNear g)
   first-near (Why.cut g) c = absurd (omega (arith, cut-far q (g .start) (g .stop) (c .by) (c .is) .left, c .at))
@@ -187,13 +182,13 @@ module _ (q : Run) (least : 1 ≤ q .shortest .m) (rows : 1 ≤ q .n) where
   first-near (noNumber g) (h, n, f, e) = absurd (n (inl (omega arith)))
   first-near (notAbove gain g) (h, n, f, v, e, t) = absurd (n (inl (omega arith)))
 
-  pub explained : Explained q
-  explained =
+  pub justified : Justified q
+  justified =
       record {
         so = so;
         only = only;
         cut-exactly = λ x h. (
-          λ (g, e). on-sheet q T whole x .1 (cut-is x g (rw e at (so x h))),
+          λ (g, e). on-sheet q T whole x .1 (of-cut q least x g (rw e at (so x h))),
           λ i. is-cut x (on-sheet q T whole x .0 i),
         );
         row-0 = first-near (whyOf q 0) (so 0 rows);

@@ -42,6 +42,13 @@ module _ (q : Run) (least : 1 ≤ q .shortest .m) where
       let (l, u) = reached-fits n z stop h in let far = cut-far q z stop r c in (omega (arith, far .right), u)
 
   module _ (x : ℕ) where
+    -- ---- a row that some reached segment is cut at, and that segment
+    pub cut-of : CutAt q x → (g : Segment) × CutOf q x g
+    cut-of c = (record { start = c .chosen .start; stop = c .chosen .stop }, record { by = c .by; reached = c .chosen .reached; is = c .chosen .is; at = c .at })
+
+    pub of-cut : (g : Segment) → CutOf q x g → CutAt q x
+    of-cut g c = record { by = c .by; chosen = record { start = g .start; stop = g .stop; reached = c .reached; is = c .is }; at = c .at }
+
     -- ---- down: what a place in a reached segment's tree says
     record Uncut (g : Segment) : Type 0 where
       reached : Reached q (g .start) (g .stop)
@@ -82,7 +89,7 @@ module _ (q : Run) (least : 1 ≤ q .shortest .m) where
           (p .right, p .grows-right, sym (place-right x z stop r (p .left) (p .right) above) ∙ sym (ap (placeOf x) (p .is)) ∙ e)
         where
           go : Dec (x ≤ r .split) → r .split < x
-          go (yes w) = absurd (f (omega (arith, l)) (record { by = r; chosen = record { start = z; stop = stop; reached = h; is = c }; at = omega (arith, l) }))
+          go (yes w) = absurd (f (omega (arith, l)) (of-cut (record { start = z; stop = stop }) (record { by = r; reached = h; is = c; at = omega (arith, l) })))
           go (no w) = omega arith
 
       pub cut-place : (g : Segment) → CutOf q x g → placeOf x T ≡ atCut g
@@ -110,10 +117,4 @@ module _ (q : Run) (least : 1 ≤ q .shortest .m) where
         pub place-held : (g : Segment) → placeOf x T ≡ uncutIn g → HeldBy q x g
         place-held g e =
             let w : Uncut g = rw e at (stands 0 (q .n) T whole run (omega arith) row) in
-            record { no-cut = none; reached = w .reached; uncut = w .uncut; low = w .low; high = w .high }
-          where
-            none : CutAt q x → ⊥
-            none c =
-                let g′ : Segment = record { start = c .chosen .start; stop = c .chosen .stop } in
-                let k = cut-place g′ (record { by = c .by; reached = c .chosen .reached; is = c .chosen .is; at = c .at }) in
-                never (cc)
+            record { no-cut = λ c. let (h, k) = cut-of c in let f = cut-place h k in never (cc); reached = w .reached; uncut = w .uncut; low = w .low; high = w .high }

@@ -1,5 +1,5 @@
 -- Why a row is not on the sheet: what is told of a row as a relation between the run, the row and the reason, with no tree. "The reason named must be true of the
--- data and every earlier one false." proofs/Because.antt has `Explained` for every run with m and n at least 1. Assumes nothing.
+-- data and every earlier one false." proofs/Because.antt has `Justified` for every run with m and n at least 1. Assumes nothing.
 use mathlib.Core.Path.{_≡_}
 use mathlib.Core.Logic.{_↔_, _⊎_}
 use mathlib.Core.Bool.{true, false}
@@ -57,7 +57,7 @@ Because q x (notAbove gain g) =
     × (lt (q .threshold) gain ≡ false)
 
 -- ---- what holds of the answers
-pub record Explained (q : Run) : Type 0 where
+pub record Justified (q : Run) : Type 0 where
   -- of every row of the run what is told is so
   pub so : (x : ℕ) → x < q .n → Because q x (whyOf q x)
   -- and nothing else is

@@ -8,7 +8,7 @@ ghost use Prim.Native.Nat.{_+_, _<_};
 ghost use lib.ListN.{length, getD};
 ghost use Rattle.scope.specs.Refusals.{firstOf, wrongLayers};
 ghost use Rattle.scope.specs.Draws.{isSearched, isOdd, bothGiven, isPast, anyPast, mostStored, sourceTests};
-ghost use Rattle.layers.specs.Layer.{segmentOf};
+ghost use Rattle.rows.specs.Segments.{toSegment};
 
 // W is at most this.
 pub const MOST_WILD: usize = 4096;
@@ -16,7 +16,7 @@ pub const MOST_WILD: usize = 4096;
 // The draw whose pair stands at a place.
 pub fn draw_at(draws: &[usize], at: usize) -> Segment
     requires { ⌜ at + 1 < length (now draws) ⌝ }
-    ensures { λ r. ⌜ segmentOf r ≡ record { start = getD (now (draws .entry)) at 0; stop = getD (now (draws .entry)) (at + 1) 0 } ⌝ }
+    ensures { λ r. ⌜ toSegment r ≡ record { start = getD (now (draws .entry)) at 0; stop = getD (now (draws .entry)) (at + 1) 0 } ⌝ }
 {
     Segment {
         start: Position(draws[at]),
@@ -26,14 +26,14 @@ pub fn draw_at(draws: &[usize], at: usize) -> Segment
 
 // Whether a draw is searched; one that stops where it starts, or before, is passed over.
 pub fn is_searched(draw: Segment) -> bool
-    ensures { λ r. ⌜ r ≡ isSearched (segmentOf draw) ⌝ }
+    ensures { λ r. ⌜ r ≡ isSearched (toSegment draw) ⌝ }
 {
     draw.start.0 < draw.stop.0
 }
 
 // Whether a draw stops past the run's n rows.
 fn is_past(draw: Segment, n: usize) -> bool
-    ensures { λ r. ⌜ r ≡ isPast n (segmentOf draw) ⌝ }
+    ensures { λ r. ⌜ r ≡ isPast n (toSegment draw) ⌝ }
 {
     n < draw.stop.0
 }

@@ -6,4 +6,4 @@ use Rattle.demand.proofs.Demand.{demand}
 use Rattle.prepared.proofs.Clean.{tree-clean}
 
 pub admitted : (a : TreeAsked) → treeRefusal a ≡ 0 → Demand (runOf (a .matrix) (a .settings))
-admitted a e = let f = tree-clean a e in demand (runOf (a .matrix) (a .settings)) (f .lengths .0) (f .sums .shape .rows .0)
+admitted a e = let f = tree-clean a e in demand (runOf (a .matrix) (a .settings)) (f .run .lengths .0) (f .run .sums-fit .shape .rows .0)

@@ -106,18 +106,18 @@ module _ (x : Matrix) (s : Settings) (forbidden : List ℕ) (source : Source) (b
         }
 
     standing : Stands x s forbidden source front len count
-    standing = stands x s forbidden source (recordSlices before) front (clean .sums) fronts len count (told .1) (told .2)
+    standing = stands x s forbidden source (recordSlices before) front (clean .run .sums-fit) fronts len count (told .1) (told .2)
 
     pub part-long : length (take len (front .sums)) ≡ len
     part-long = standing .part-long
 
     pub sized : Sized shared (x .n) (length (take len (front .sums)))
-    sized = standing .sized (clean .lengths .1)
+    sized = standing .sized (clean .run .lengths .1)
 
     pub ready : length (front .rows) ≡ length (before .rows) → length (front .gains) ≡ length (before .gains) → Ready (take len (front .sums)) forbidden shared (x .n) count lentOf
     ready same-rows same-gains = record {
-      least = clean .lengths .0;
-      nonempty = clean .sums .shape .rows .0;
+      least = clean .run .lengths .0;
+      nonempty = clean .run .sums-fit .shape .rows .0;
       segments = segments x s forbidden source;
       stand = standing .records;
       room-rows = omega (arith, standing .few, clean .records-fit, same-rows);

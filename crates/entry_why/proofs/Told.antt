@@ -7,7 +7,7 @@ use Rattle.scope.specs.Calls.{sumsOf, runOf}
 use Rattle.scope.specs.Why.{WhyAsked, whyOf, whyRefusal, whyCall}
 use Rattle.scope.proofs.Never.{never}
 use Rattle.demand.specs.Because.{Because}
-use Rattle.demand.proofs.Because.{explained}
+use Rattle.demand.proofs.Because.{justified}
 use Rattle.control.proofs.Follows.{answer-refused, answer-given}
 use Rattle.segmentation.specs.Segments.{Slices, Held}
 use Rattle.segmentation.proofs.Held.{none-held, all-held}
@@ -41,7 +41,7 @@ module _ (x : Matrix) (s : Settings) (row : ℕ) (before : Slices) where
   unfolding whyCall
   told k is none after h w e =
       let clean = why-clean a (sym is ∙ none) in
-      let so : Because q row (whyOf q row) = explained q (clean .lengths .0) (clean .sums .shape .rows .0) .so row (clean .row-within) in
+      let so : Because q row (whyOf q row) = justified q (clean .run .lengths .0) (clean .run .sums-fit .shape .rows .0) .so row (clean .row-within) in
       record {
         answer = rw e (ap explainedOf (answer-given is none (whyOf q row)));
         held = all-held is (sumsOf x) (storedRecords q) before none h;

@@ -1,17 +1,11 @@
--- A segment; a layer, worked out once for all its segments.
+-- A layer, worked out once for all its segments.
 use mathlib.Core.Path.{_≡_}
 use mathlib.Core.Bool.{true}
 use Prim.Native.Nat.{_≤_}
 use Rattle.scope.specs.Refusals.{isLayer}
 use Rattle.scope.specs.Rounding.{toF32, ceiling}
 use Rattle.scope.specs.Layers.{layerLength, layerCount, layerStep}
-use Rattle.scope.specs.Layers as scope
 use Rattle.layers.specs.declared.Layer.{Layer}
-use Rattle.rows.specs.declared.Segment.{Segment}
-
--- the code's segment, as the definitions'
-abbrev pub segmentOf : Segment → scope.Segment
-segmentOf s = record { start = s .start .0; stop = s .stop .0 }
 
 -- its values are those of document 01
 pub record Made (l : Layer) : Type 0 where

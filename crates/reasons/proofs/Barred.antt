@@ -11,10 +11,11 @@ use lib.Ieee.{Float}
 use Rattle.scope.specs.Layers.{Segment}
 use Rattle.scope.specs.Why.{Barring, by, free, firstBarring, byGain, firstReason}
 use Rattle.scope.proofs.Never.{never}
+use Rattle.rows.specs.Segments.{fromSegment}
 use Rattle.rows.proofs.Pairs.{pair-next}
 use Rattle.reasons.specs.declared.Why.the-variants as why
 use Rattle.reasons.specs.declared.Barring.the-variants as barring
-use Rattle.reasons.specs.Answers.{fromSegment, fromWhy, fromBarring}
+use Rattle.reasons.specs.Answers.{fromWhy, fromBarring}
 
 -- the pair at i, and what is after it
 pub barring-next : (l : List ℕ) (x i : ℕ) → i + 1 < length l

@@ -23,7 +23,8 @@ use Rattle.verdict.specs.declared.Verdict.the-variants.{WithoutChoice, Uncut, C
 use Rattle.verdict.proofs.Verdict.{the-type}
 use Rattle.verdict.specs.Rules.{runOver, over, Rules}
 use Rattle.reasons.specs.declared.Why.the-variants as why
-use Rattle.reasons.specs.Answers.{fromSegment, fromWhy}
+use Rattle.rows.specs.Segments.{fromSegment}
+use Rattle.reasons.specs.Answers.{fromWhy}
 
 -- a verdict that is none of a cut
 pub not-cut : (q : Run) (rs : List Record) (start stop : ℕ) (v : Verdict) → OneOf (0 ∷ 1 ∷ []) (tagOf the-type v) → Rules q rs start stop v → isCut (verdict q rs start stop) ≡ false

@@ -1,18 +1,10 @@
 -- What is told of a row: the code's values beside the definitions'.
-use Rattle.scope.specs.Layers as layers
 use Rattle.scope.specs.Why as scope
-use Rattle.rows.specs.declared.Segment.{Segment}
+use Rattle.rows.specs.Segments.{toSegment, fromSegment}
 use Rattle.reasons.specs.declared.Why.{Why}
 use Rattle.reasons.specs.declared.Why.the-variants as why
 use Rattle.reasons.specs.declared.Barring.{Barring}
 use Rattle.reasons.specs.declared.Barring.the-variants as barring
-
--- the segment that the struct stands for, and the struct that stands for a segment
-abbrev pub toSegment : Segment → layers.Segment
-toSegment g = record { start = g .start .0; stop = g .stop .0 }
-
-abbrev pub fromSegment : layers.Segment → Segment
-fromSegment g = record { start = record { 0 = g .start }; stop = record { 0 = g .stop } }
 
 -- what the enum says, and the case that says it
 abbrev pub toWhy : Why → scope.Why

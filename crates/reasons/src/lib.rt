@@ -11,9 +11,10 @@ ghost use Prim.Native.Nat.{_+_, _<_, _≤_};
 ghost use lib.Dec.{ltb, leb};
 ghost use lib.ListN.{length};
 ghost use Rattle.scope.specs.Why.{isNear, firstBarring, byGain, reasonIn};
+ghost use Rattle.rows.specs.Segments.{toSegment};
 ghost use Rattle.control.specs.Settings.{shortestOf};
 ghost use Rattle.verdict.specs.Rules.{over, Sized};
-ghost use Rattle.reasons.specs.Answers.{toSegment, fromWhy, fromBarring};
+ghost use Rattle.reasons.specs.Answers.{fromWhy, fromBarring};
 ghost use Rattle.reasons.specs.Walked.{Ready, Told};
 
 // What is told of a row, each with the segment that it is told of: it is the cut of that reached segment; or, of the uncut one that holds it, the first that

@@ -15,7 +15,8 @@ ghost use Rattle.scope.specs.Draws.{drawn, storedSegments, mostStored};
 ghost use Rattle.scope.specs.Calls.{storedRefusal};
 ghost use Rattle.control.specs.Settings.{shortestOf};
 ghost use Rattle.stored.specs.Flat.{Put};
-ghost use Rattle.layers.specs.Layer.{segmentOf, Made};
+ghost use Rattle.rows.specs.Segments.{toSegment};
+ghost use Rattle.layers.specs.Layer.{Made};
 ghost use Rattle.segmentation.specs.Segments.{searchOver, storedOver, drawRecord, Within, storedAsked, StoresSegments};
 
 // Searches a segment and stores its record at the place `at`; a segment that the search refuses leaves none. Tells the next place.
@@ -123,7 +124,7 @@ fn store_draw(
 ) -> usize
     requires { ⌜ (draw .stop .0 ≤ 4096) × (shortest .m ≤ 4096) × ((draw .stop .0 + 1) * d ≤ length (now sums)) ⌝ }
     requires { ⌜ (3 * at + 3 ≤ length (now rows)) × (at < length (now gains)) ⌝ }
-    ensures { λ r. ⌜ Put (one (drawRecord (searchOver (now (sums .entry)) d (shortestOf shortest) (now (forbidden .entry))) (segmentOf draw))) at (now (rows .entry)) (now (gains .entry)) (now (rows .exit)) (now (gains .exit)) r ⌝ }
+    ensures { λ r. ⌜ Put (one (drawRecord (searchOver (now (sums .entry)) d (shortestOf shortest) (now (forbidden .entry))) (toSegment draw))) at (now (rows .entry)) (now (gains .entry)) (now (rows .exit)) (now (gains .exit)) r ⌝ }
 {
     if !draws::is_searched(draw) {
         return at;

@@ -6,7 +6,7 @@ use Rattle.scope.specs.Program.{Deck, deckRun}
 use Rattle.scope.specs.Why.{whyOf}
 use Rattle.scope.specs.WhyText.{whyLine, askedRefusal, askedText, whyProgram}
 use Rattle.demand.specs.Printed.{AnswersWhy}
-use Rattle.demand.proofs.Because.{explained}
+use Rattle.demand.proofs.Because.{justified}
 use Rattle.deck.proofs.Said.{reads-text}
 use Rattle.limits.proofs.Clean.{deck-clean}
 use Rattle.why_answers.proofs.Limits.{asked-free}
@@ -24,7 +24,7 @@ answers x input text is =
           let f = deck-clean deck clean in
           record {
             why = whyOf (deckRun deck) x;
-            because = explained (deckRun deck) (f .length-fits .0) (f .sizes .rows .0) .so x within;
+            because = justified (deckRun deck) (f .length-fits .0) (f .sizes .rows .0) .so x within;
             line-is = is ∙ reads-text (askedText x) input deck made ∙ line-text x deck free;
           };
     }

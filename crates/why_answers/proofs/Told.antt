@@ -11,7 +11,7 @@ use Rattle.scope.specs.Program.{orRefused}
 use Rattle.scope.specs.Why.{whyOf, whyCall}
 use Rattle.scope.specs.WhyText.{whyLine}
 use Rattle.scope.proofs.Never.{never}
-use Rattle.demand.proofs.Because.{explained}
+use Rattle.demand.proofs.Because.{justified}
 use Rattle.segmentation.specs.Segments.{Slices}
 use Rattle.line.specs.declared.Given.{Given}
 use Rattle.limits.specs.Limits.{givenRefusal}
@@ -57,5 +57,5 @@ module _ (x : ℕ) (g : Given) (cells : List Float) (forbidden : List ℕ) where
     told-text w h = rw judged (go (rowNumber x g cells forbidden) (h .answer-is))
       where
         go : (j : ℕ) → told.Why w ≡ explainedOf (unless j (whyOf q x)) → whyLine x (toWhy w) ≡ orRefused j (whyLine x (whyOf q x))
-        go zero e = let f = given-clean g forbidden judged in ap (whyLine x) (explained q (f .least) (f .sizes .rows .0) .only x (toWhy w) (h .because w refl))
+        go zero e = let f = given-clean g forbidden judged in ap (whyLine x) (justified q (f .least) (f .sizes .rows .0) .only x (toWhy w) (h .because w refl))
         go (suc j) e = never (cc)

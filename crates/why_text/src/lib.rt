@@ -8,7 +8,8 @@ ghost use Prim.Native.Nat.{_+_, _≤_};
 ghost use lib.ListN.{length};
 ghost use Rattle.scope.specs.Text.{bytes, decimal, line};
 ghost use Rattle.scope.specs.WhyText.{ends, whyLine};
-ghost use Rattle.reasons.specs.Answers.{toSegment, toWhy};
+ghost use Rattle.rows.specs.Segments.{toSegment};
+ghost use Rattle.reasons.specs.Answers.{toWhy};
 ghost use Rattle.report.specs.Written.{Written};
 
 // A word with its tab, the row and the segment's ends.

@@ -12,7 +12,7 @@ use Rattle.control.specs.Settings.{settingsOf}
 use Rattle.segmentation.specs.Segments.{Slices, Held}
 use Rattle.prepared.proofs.Stands.{segments, Stands, stands}
 use Rattle.entry_why.specs.Left.{whyAsked}
-use Rattle.entry_why.proofs.Clean.{WhyClean, why-clean, why-segments}
+use Rattle.entry_why.proofs.Clean.{WhyClean, why-clean}
 use Rattle.entry_why.proofs.Told.{refused-told, told}
 use borrow.Author.Needs.{needs}
 use Rattle.entry_why.proofs.why.Statement.{statement}
@@ -47,10 +47,10 @@ returns : tie.Need-returns
 returns c = let s = c .before .before .before .before .before .before .before .before .before .before in refused-told (matrix s) (settings s) (s .args .row .0) (lent s) _ (number (c .before)) (c .if1 .taken)
 
 store-segments-requires : tie.Need-store-segments-requires
-store-segments-requires c κs = why-segments (asks (c .before .before .before .before .before .before .before .before .before .before .before .before .before .before)) (none-refused (c .before .before .before .before))
+store-segments-requires c κs = clean (c .before .before .before .before) .run .segments
 
 sums-len-requires : tie.Need-sums-len-requires
-sums-len-requires c κs = let w = clean (c .before .before .before .before .before .before .before .before .before .before .before) .sums .shape in (w .rows .1, w .columns .1)
+sums-len-requires c κs = let w = clean (c .before .before .before .before .before .before .before .before .before .before .before) .run .sums-fit .shape in (w .rows .1, w .columns .1)
 
 -- ---- once the sums and the records stand
 abbrev front : tie.After-sums-len → Slices
@@ -66,10 +66,10 @@ unfolding storedRecords
 counted c = c .before .before .before .before .before .before .before .store-segments .ensures .count
 
 standing : (c : tie.After-sums-len) → let s = c .before .before .before .before .before .before .before .before .before .before .before .before .before .before .before .before .before .before .before .before .before .before in Stands (matrix s) (s .args .settings) (now (s .args .forbidden)) (source s) (front c) (c .sums-len .result) (c .before .before .before .before .before .before .before .store-segments .result)
-standing c = let s = c .before .before .before .before .before .before .before .before .before .before .before .before .before .before .before .before .before .before .before .before .before .before in stands (matrix s) (s .args .settings) (now (s .args .forbidden)) (source s) (lent s) (front c) (clean (c .before .before .before .before .before .before .before .before .before .before .before .before) .sums) (held c) _ _ (c .sums-len .ensures) (counted c)
+standing c = let s = c .before .before .before .before .before .before .before .before .before .before .before .before .before .before .before .before .before .before .before .before .before .before in stands (matrix s) (s .args .settings) (now (s .args .forbidden)) (source s) (lent s) (front c) (clean (c .before .before .before .before .before .before .before .before .before .before .before .before) .run .sums-fit) (held c) _ _ (c .sums-len .ensures) (counted c)
 
 slice-reshare-prefix-explain : tie.Need-slice-reshare-prefix-explain
-slice-reshare-prefix-explain c = omega (arith, clean (c .before .before .before .before .before .before .before .before .before .before .before .before) .sums .fits, c .sums-len .ensures)
+slice-reshare-prefix-explain c = omega (arith, clean (c .before .before .before .before .before .before .before .before .before .before .before .before) .run .sums-fit .fits, c .sums-len .ensures)
 
 slice-aggregate-explain : tie.Need-slice-aggregate-explain
 slice-aggregate-explain c = sym (standing (c .before) .part-long)
@@ -79,10 +79,10 @@ explain-requires c κs =
     let s = c .before .before .before .before .before .before .before .before .before .before .before .before .before .before .before .before .before .before .before .before .before .before .before .before .before in
     let w = clean (c .before .before .before .before .before .before .before .before .before .before .before .before .before .before .before) in
     let st = standing (c .before .before .before) in (
-      st .sized (w .lengths .1),
+      st .sized (w .run .lengths .1),
       w .row-within,
       record {
-        least = w .lengths .0;
+        least = w .run .lengths .0;
         segments = segments (matrix s) (s .args .settings) (now (s .args .forbidden)) (source s);
         stand = st .records;
         room-rows = omega (arith, st .few, w .records-fit);

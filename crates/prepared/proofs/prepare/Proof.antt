@@ -11,7 +11,7 @@ use Rattle.segmentation.specs.Segments.{Slices}
 use Rattle.segmentation.proofs.Held.{none-held, all-held}
 use Rattle.prepared.specs.Answers.{treeAsked, recordsBefore, preparedOf}
 use Rattle.prepared.specs.declared.Prepared.the-variants.{Stored}
-use Rattle.prepared.proofs.Clean.{tree-clean, tree-segments}
+use Rattle.prepared.proofs.Clean.{tree-clean}
 use borrow.Author.Needs.{needs}
 use Rattle.prepared.proofs.prepare.Statement.{statement}
 use Rattle.prepared.proofs.prepare.Tie as tie
@@ -42,10 +42,10 @@ returns c =
     }
 
 store-segments-requires : tie.Need-store-segments-requires
-store-segments-requires c κs = tree-segments (asked (c .before .before .before .before .before .before .before .before .before .before .before .before .before .before)) (none-refused (c .before .before .before .before))
+store-segments-requires c κs = tree-clean (asked (c .before .before .before .before .before .before .before .before .before .before .before .before .before .before)) (none-refused (c .before .before .before .before)) .run .segments
 
 sums-len-requires : tie.Need-sums-len-requires
-sums-len-requires c κs = let f = tree-clean (asked (c .before .before .before .before .before .before .before .before .before .before .before .before .before .before .before .before .before .before .before .before .before)) (none-refused (c .before .before .before .before .before .before .before .before .before .before .before)) in (f .sums .shape .rows .1, f .sums .shape .columns .1)
+sums-len-requires c κs = let f = tree-clean (asked (c .before .before .before .before .before .before .before .before .before .before .before .before .before .before .before .before .before .before .before .before .before)) (none-refused (c .before .before .before .before .before .before .before .before .before .before .before)) in (f .run .sums-fit .shape .rows .1, f .run .sums-fit .shape .columns .1)
 
 returns-2 : tie.Need-returns-2
 unfolding storedRecords

@@ -6,7 +6,7 @@ use denote.Ref.{now}
 use Rattle.scope.specs.Gain.{gainOf}
 use Rattle.scope.specs.Why.{isNear, firstBarring}
 use Rattle.control.specs.Settings.{shortestOf}
-use Rattle.reasons.specs.Answers.{toSegment}
+use Rattle.rows.specs.Segments.{toSegment}
 use Rattle.reasons.proofs.Barred.{told-barred, told-free}
 use borrow.Author.Needs.{needs}
 use Rattle.reasons.proofs.reason_in.Statement.{statement}

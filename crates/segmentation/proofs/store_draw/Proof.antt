@@ -4,14 +4,14 @@ use mathlib.Core.Bool.{true}
 use native.Mathlib.Omega.{arith}
 use borrow.Author.Tests.{ltb-true, not-true, not-false}
 use Rattle.scope.specs.Draws.{isSearched}
-use Rattle.layers.specs.Layer.{segmentOf}
+use Rattle.rows.specs.Segments.{toSegment}
 use Rattle.stored.proofs.Flat.{put-none, put-long}
 use borrow.Author.Needs.{needs}
 use Rattle.segmentation.proofs.store_draw.Statement.{statement}
 use Rattle.segmentation.proofs.store_draw.Tie as tie
 
 -- it is searched
-searched : (c : tie.Else1) → isSearched (segmentOf (c .before .before .before .before .before .before .args .draw)) ≡ true
+searched : (c : tie.Else1) → isSearched (toSegment (c .before .before .before .before .before .before .args .draw)) ≡ true
 searched c = sym (c .before .is-searched .ensures) ∙ not-false _ (c .if1 .left)
 
 returns : tie.Need-returns

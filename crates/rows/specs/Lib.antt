@@ -1,0 +1,2 @@
+-- The code's segment, as the definitions'.
+pub mod Segments
