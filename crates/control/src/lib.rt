@@ -176,12 +176,12 @@ pub fn most_nodes(n: usize, shortest: Shortest) -> usize
     2 * q - 1
 }
 
-// How many records fit where each takes three row numbers and one gain.
+// How many records fit where each takes five whole numbers and one gain.
 pub fn record_room(rows: usize, gains: usize) -> usize
-    ensures { λ r. ⌜ r ≡ min (rows / 3) gains ⌝ }
+    ensures { λ r. ⌜ r ≡ min (rows / 5) gains ⌝ }
 {
-    let threes = rows / 3;
-    if threes < gains { threes } else { gains }
+    let fives = rows / 5;
+    if fives < gains { fives } else { gains }
 }
 
 // ---- the tests that several calls begin with, in number order: the number that applies, or 0

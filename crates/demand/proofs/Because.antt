@@ -11,6 +11,7 @@ use lib.Ieee.{Float, lt, isNan}
 use Rattle.scope.specs.Asked.{Shortest, endOf}
 use Rattle.scope.specs.Allowed.{Allowed}
 use Rattle.scope.specs.Allowed as allowed
+use Rattle.scope.specs.Origin.{Origin}
 use Rattle.scope.specs.Layers.{Segment}
 use Rattle.scope.specs.Tree.{Run, Tree, treeOf}
 use Rattle.scope.specs.ClosedEnd.{Free}
@@ -157,7 +158,7 @@ module _ (q : Run) (least : 1 ≤ q .shortest .m) (rows : 1 ≤ q .n) where
   so x h = go (placeOf x T) refl
     where
       go : (p : Place) → placeOf x T ≡ p → Because q x (byPlace q x p)
-      go (atCut g) e = place-cut q least x T whole h g e
+      go (atCut g o) e = place-cut q least x T whole h g o e
       go (uncutIn g) e = reason-so q x g (place-held q least x T whole h g e)
 
   held-why : (x : ℕ) (g : Segment) → HeldBy q x g → whyOf q x ≡ reasonIn q x g
@@ -166,17 +167,17 @@ module _ (q : Run) (least : 1 ≤ q .shortest .m) (rows : 1 ≤ q .n) where
 
   only : (x : ℕ) (w : Why) → Because q x w → w ≡ whyOf q x
   unfolding whyOf
-  only x (Why.cut g) c = sym (ap (byPlace q x) (cut-place q least x T whole g c))
+  only x (Why.cut g o) c = sym (ap (byPlace q x) (cut-place q least x T whole g o c))
   only x (tooNear g) (h, n) = rw (held-why x g h, so-near (q .shortest) g x n)
   only x (barred a b g) (h, n, p) = rw (held-why x g h, not-near (q .shortest) g x n, so-first x a b (q .forbidden) p)
   only x (noNumber g) (h, n, f, e) = rw (held-why x g h, not-near (q .shortest) g x n, so-free x (q .forbidden) f, e)
   only x (notAbove gain g) (h, n, f, v, e, t) = rw (held-why x g h, not-near (q .shortest) g x n, so-free x (q .forbidden) f, ← v, e)
 
-  is-cut : (x : ℕ) → CutAt q x → (g : Segment) × (whyOf q x ≡ Why.cut g)
-  is-cut x c = let (g, k) = cut-of q least x c in (g, sym (only x (Why.cut g) k))
+  is-cut : (x : ℕ) → CutAt q x → (g : Segment) × (o : Origin) × (whyOf q x ≡ Why.cut g o)
+  is-cut x c = let (g, o, k) = cut-of q least x c in (g, o, sym (only x (Why.cut g o) k))
 
   first-near : (w : Why) → Because q 0 w → (g : Segment) × (w ≡ tooNear g)
-  first-near (Why.cut g) c = absurd (omega (arith, cut-far q (g .start) (g .stop) (c .by) (c .is) .left, c .at))
+  first-near (Why.cut g o) c = absurd (omega (arith, cut-far q (g .start) (g .stop) (c .by) (c .is) .left, c .at))
   first-near (tooNear g) b = (g, refl)
   first-near (barred a b g) (h, n, p) = absurd (n (inl (omega arith)))
   first-near (noNumber g) (h, n, f, e) = absurd (n (inl (omega arith)))
@@ -188,7 +189,7 @@ module _ (q : Run) (least : 1 ≤ q .shortest .m) (rows : 1 ≤ q .n) where
         so = so;
         only = only;
         cut-exactly = λ x h. (
-          λ (g, e). on-sheet q T whole x .1 (of-cut q least x g (rw e at (so x h))),
+          λ (g, o, e). on-sheet q T whole x .1 (of-cut q least x g o (rw e at (so x h))),
           λ i. is-cut x (on-sheet q T whole x .0 i),
         );
         row-0 = first-near (whyOf q 0) (so 0 rows);

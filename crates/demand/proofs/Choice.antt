@@ -10,12 +10,14 @@ use lib.Ieee.{Float, lt}
 use Rattle.scope.specs.Allowed.{Allowed}
 use Rattle.scope.specs.Greatest.{numeric, FirstGreatest}
 use Rattle.scope.specs.Grid.{Record, best}
+use Rattle.scope.specs.Layers.{withOrigin}
 use Rattle.scope.specs.Tree.{Run, direct, storedRecords, inside, chosen, choice}
 use Rattle.scope.proofs.Order.{both, lt-co}
 use Rattle.scope.proofs.Greatest.{best-is-first, first-one, first-greatest, first-numeric}
 use Rattle.scope.proofs.Never.{never}
+use Rattle.demand.specs.Reached.{CameFrom, itself, within}
 use Rattle.demand.specs.Offered.{Offered, own, ofStored}
-use Rattle.demand.proofs.Records.{direct-found, direct-numeric, direct-above, direct-some, OfStored, segments-are, segments-all}
+use Rattle.demand.proofs.Records.{direct-found, direct-origin, direct-numeric, direct-above, direct-some, labelled-found, segments-are, segments-all}
 use Rattle.demand.proofs.Inside.{inside-are, inside-all}
 
 -- not w < y, and not y < z, and so not w < z, if y is numeric
@@ -45,11 +47,6 @@ module _ (q : Run) (rs : List Record) (start stop : ℕ) where
       go (some d) e h = let w : best d (inside start stop rs) ≡ c = cc in (d, e, rw w at (best-is-first d (inside start stop rs)))
 
 -- ---- over the stored segments' records
--- c is the direct record of [start, stop), or that of a stored segment inside it
-pub data Source (q : Run) (start stop : ℕ) (c : Record) : Type 0 where
-  itself : direct q start stop ≡ some c → Source q start stop c
-  within : OfStored q (q .segments) c → start ≤ c .start → c .stop ≤ stop → Source q start stop c
-
 module _ (q : Run) (start stop : ℕ) where
   -- an allowed row of a segment inside is an allowed row
   widened : (a b x : ℕ) → start ≤ a → b ≤ stop → Allowed (q .shortest) (q .forbidden) a b x → Allowed (q .shortest) (q .forbidden) start stop x
@@ -60,18 +57,22 @@ module _ (q : Run) (start stop : ℕ) where
   offered-row g (ofStored {s = s} {x = x} i l u w) = (x, widened (s .start) (s .stop) x l u w)
 
   -- a source's gain that is above anything is offered
-  pub source-offered : (c : Record) → Source q start stop c → (t : Float) → lt t (c .gain) ≡ true → Offered q start stop (c .gain)
-  source-offered c (itself h) t k = let f = direct-found q start stop c h in rw (f .own t k) (own (f .row t k))
-  source-offered c (within z l u) t k =
-      let f = direct-found q (z .segment .start) (z .segment .stop) c (z .found) in
-      rw (f .own t k) (ofStored (z .one) (omega (arith, f .start-is)) (omega (arith, f .stop-is)) (f .row t k))
+  pub source-offered : (c : Record) → CameFrom q start stop c → (t : Float) → lt t (c .gain) ≡ true → Offered q start stop (c .gain)
+  source-offered c (itself o h) t k = let f = direct-found q start stop c h in rw (f .own t k) (own (f .row t k))
+  source-offered c (within {s = s} i l u h) t k =
+      let f = labelled-found q (s .start) (s .stop) (s .origin) c h in
+      rw (f .own t k) (ofStored {s = s} i l u (f .row t k))
 
   module _ (c : Record) (is : choice q (storedRecords q) start stop ≡ some c) where
-    pub choice-source : Source q start stop c
+    pub choice-source : CameFrom q start stop c
     choice-source =
         let (d, h, f) = choice-of q (storedRecords q) start stop c is in
-        ⊎-elim (λ (e : c ≡ d). itself (rw e h))
-        (λ i. let (l, u, j) = inside-are start stop (storedRecords q) c i in within (segments-are q c j) l u)
+        ⊎-elim (λ (e : c ≡ d). itself (rw e (direct-origin q start stop d h)) (rw e h))
+        (λ i.
+        let (l, u, j) = inside-are start stop (storedRecords q) c i in
+        let z = segments-are q c j in
+        let f = labelled-found q (z .segment .start) (z .segment .stop) (z .segment .origin) c (z .found) in
+        within (z .one) (omega (arith, f .start-is)) (omega (arith, f .stop-is)) (z .found))
         (List·Memᴰ·cases-cons (first-one f))
 
     pub choice-numeric : numeric (c .gain) ≡ true
@@ -86,8 +87,8 @@ module _ (q : Run) (start stop : ℕ) where
         let (d, h, f) = choice-of q (storedRecords q) start stop c is in
         let (r, p) = direct-some q (s .start) (s .stop) x w in
         let k = direct-found q (s .start) (s .stop) r p in
-        let j = inside-all start stop (storedRecords q) r (omega (arith, k .start-is)) (omega (arith, k .stop-is)) (segments-all q s r i p) in
-        still-not (c .gain) (r .gain) (q .gain (s .start) (s .stop) x) (direct-numeric q (s .start) (s .stop) r p) (first-greatest f r (List·Memᴰ·tail j)) (direct-above q (s .start) (s .stop) r p x w)
+        let j = inside-all start stop (storedRecords q) (withOrigin (s .origin) r) (omega (arith, k .start-is)) (omega (arith, k .stop-is)) (segments-all q s r i p) in
+        still-not (c .gain) (r .gain) (q .gain (s .start) (s .stop) x) (direct-numeric q (s .start) (s .stop) r p) (first-greatest f (withOrigin (s .origin) r) (List·Memᴰ·tail j)) (direct-above q (s .start) (s .stop) r p x w)
 
   -- where a gain is offered, there is a choice
   pub offered-choice : (g : Float) → Offered q start stop g → (c : Record) × (choice q (storedRecords q) start stop ≡ some c)

@@ -14,10 +14,10 @@ use Rattle.scope.specs.Tree.{Run, storedRecords, choice, uncut, cut, judged, ve
 use Rattle.scope.proofs.Order.{both, lt-co}
 use Rattle.scope.proofs.Never.{never}
 use Rattle.scope.proofs.Candidates.{one-at-most}
-use Rattle.demand.specs.Reached.{ruling, isCut, CutBy}
+use Rattle.demand.specs.Reached.{ruling, isCut, CutBy, CameFrom, itself, within}
 use Rattle.demand.specs.Offered.{Offered, Greatest}
-use Rattle.demand.proofs.Records.{Found, direct-found}
-use Rattle.demand.proofs.Choice.{Source, itself, within, choice-source, choice-numeric, choice-above, source-offered, offered-choice}
+use Rattle.demand.proofs.Records.{Found, direct-found, labelled-found}
+use Rattle.demand.proofs.Choice.{choice-source, choice-numeric, choice-above, source-offered, offered-choice}
 
 -- what is numeric and not above minus infinity is minus infinity
 only-lowest : (g : Float) → numeric g ≡ true → lt lowest g ≡ false → g ≡ lowest
@@ -111,9 +111,10 @@ module _ (q : Run) (start stop : ℕ) where
   found-cuts a b r f l u t =
       record { left = l; right = u; row = rw (f .start-is, f .stop-is) (f .row (q .threshold) t); own = rw (f .start-is, f .stop-is) (f .own (q .threshold) t); exceeds = t }
 
-  source-cuts : (r : Record) → Source q start stop r → lt (q .threshold) (r .gain) ≡ true → CutBy q start stop r
-  source-cuts r (itself h) t = let f = direct-found q start stop r h in found-cuts start stop r f (omega (arith, f .start-is)) (omega (arith, f .stop-is)) t
-  source-cuts r (within z l u) t = found-cuts (z .segment .start) (z .segment .stop) r (direct-found q (z .segment .start) (z .segment .stop) r (z .found)) l u t
+  source-cuts : (r : Record) → CameFrom q start stop r → lt (q .threshold) (r .gain) ≡ true → CutBy q start stop r
+  source-cuts r (itself o h) t = let f = direct-found q start stop r h in found-cuts start stop r f (omega (arith, f .start-is)) (omega (arith, f .stop-is)) t
+  source-cuts r (within {s = s} i l u h) t =
+      let f = labelled-found q (s .start) (s .stop) (s .origin) r h in found-cuts (s .start) (s .stop) r f (omega (arith, f .start-is)) (omega (arith, f .stop-is)) t
 
   pub cut-choice : (r : Record) → ruling q start stop ≡ cut r → (choice q (storedRecords q) start stop ≡ some r) × (lt (q .threshold) (r .gain) ≡ true)
   cut-choice r h =

@@ -19,7 +19,7 @@ use Rattle.scope.proofs.Draws.{segments-few}
 use Rattle.demand.specs.AllZero.{AllZero}
 use Rattle.demand.specs.Levels.{levels, mostLevels}
 use Rattle.demand.specs.Demand.{Demand}
-use Rattle.demand.proofs.Choice.{choice-first, choice-none}
+use Rattle.demand.proofs.Choice.{choice-source, choice-first, choice-none}
 use Rattle.demand.proofs.Cut.{cut-when, greatest-some, never-cut, cut-by}
 use Rattle.demand.proofs.Grows.{one-tree}
 use Rattle.demand.proofs.Sheet.{on-cuts, on-sheet, sheet-ascends, sheet-spaced}
@@ -61,6 +61,7 @@ demand q m n =
       none-numeric = never-cut q;
       by = cut-by q;
       first = choice-first q;
+      from = choice-source q;
       no-direct = choice-none q;
       unmoved = whole;
       only = λ u g. one-tree q 0 (q .n) t u whole g;

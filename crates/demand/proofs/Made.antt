@@ -36,7 +36,7 @@ module _ (q : Run) where
   same-ruling rs start stop h = rw (inside-append, none-inside start stop rs h, append-nil)
 
   one-ends : (start stop : ℕ) (r : Record) → r ∈ one (direct q start stop) → (r .start ≡ start) × (r .stop ≡ stop)
-  one-ends start stop r i = let f = direct-found q start stop r (one-found q start stop r i) in (f .start-is, f .stop-is)
+  one-ends start stop r i = let f = direct-found q start stop r (one-found (direct q start stop) r i) in (f .start-is, f .stop-is)
 
   module _ (least : 1 ≤ q .shortest .m) where
     made-before : (start stop : ℕ) (t : Tree) → Grows q start stop t → start < stop → (r : Record) → r ∈ directs q t → r .start < stop

@@ -7,6 +7,7 @@ use native.Mathlib.Omega.{arith}
 use native.Mathlib.Decide.{decLe}
 use borrow.Author.Tests.{ltb-true, ltb-false, lt-ltb, le-ltb, eqb-true, eq-eqb, ne-eqb}
 use lib.Dec.{ltb, eqb}
+use Rattle.scope.specs.Origin.{Origin}
 use Rattle.scope.specs.Grid.{Record}
 use Rattle.scope.specs.Layers.{Segment}
 use Rattle.scope.specs.Tree.{Run, Tree, node}
@@ -20,7 +21,7 @@ use Rattle.demand.proofs.Grows.{parts-of}
 
 -- ---- one step down
 module _ (x start stop : ℕ) (r : Record) (s t : Tree) where
-  pub place-at : x ≡ r .split → placeOf x (node start stop r s t) ≡ atCut (record { start = start; stop = stop })
+  pub place-at : x ≡ r .split → placeOf x (node start stop r s t) ≡ atCut (record { start = start; stop = stop }) (r .origin)
   unfolding placeOf
   place-at e = rw (eq-eqb x (r .split) e)
 
@@ -43,11 +44,11 @@ module _ (q : Run) (least : 1 ≤ q .shortest .m) where
 
   module _ (x : ℕ) where
     -- ---- a row that some reached segment is cut at, and that segment
-    pub cut-of : CutAt q x → (g : Segment) × CutOf q x g
-    cut-of c = (record { start = c .chosen .start; stop = c .chosen .stop }, record { by = c .by; reached = c .chosen .reached; is = c .chosen .is; at = c .at })
+    pub cut-of : CutAt q x → (g : Segment) × (o : Origin) × CutOf q x g o
+    cut-of c = (record { start = c .chosen .start; stop = c .chosen .stop }, c .by .origin, record { by = c .by; reached = c .chosen .reached; is = c .chosen .is; at = c .at; from = refl })
 
-    pub of-cut : (g : Segment) → CutOf q x g → CutAt q x
-    of-cut g c = record { by = c .by; chosen = record { start = g .start; stop = g .stop; reached = c .reached; is = c .is }; at = c .at }
+    pub of-cut : (g : Segment) (o : Origin) → CutOf q x g o → CutAt q x
+    of-cut g o c = record { by = c .by; chosen = record { start = g .start; stop = g .stop; reached = c .reached; is = c .is }; at = c .at }
 
     -- ---- down: what a place in a reached segment's tree says
     record Uncut (g : Segment) : Type 0 where
@@ -57,7 +58,7 @@ module _ (q : Run) (least : 1 ≤ q .shortest .m) where
       high : x < g .stop
 
     abbrev Stands : Place → Type 0
-    Stands (atCut g) = CutOf q x g
+    Stands (atCut g o) = CutOf q x g o
     Stands (uncutIn g) = Uncut g
 
     stands : (start stop : ℕ) (t : Tree) → Grows q start stop t → Reached q start stop → start ≤ x → x < stop → Stands (placeOf x t)
@@ -67,8 +68,8 @@ module _ (q : Run) (least : 1 ≤ q .shortest .m) where
         go (eqb x (r .split)) (ltb x (r .split)) refl refl (λ j. stands start (r .split) s a (left at h) l j) (λ j. stands (r .split) stop v b (right at h) j u)
       where
         go : (e c : Bool) → eqb x (r .split) ≡ e → ltb x (r .split) ≡ c → (x < r .split → Stands (placeOf x s)) → (r .split ≤ x → Stands (placeOf x v))
-            → Stands (cond e (atCut (record { start = start; stop = stop })) (cond c (placeOf x s) (placeOf x v)))
-        go true c i j below above = record { by = r; reached = at; is = h; at = eqb-true x (r .split) i }
+            → Stands (cond e (atCut (record { start = start; stop = stop }) (r .origin)) (cond c (placeOf x s) (placeOf x v)))
+        go true c i j below above = record { by = r; reached = at; is = h; at = eqb-true x (r .split) i; from = refl }
         go false true i j below above = below (ltb-true x (r .split) j)
         go false false i j below above = above (ltb-false x (r .split) j)
 
@@ -89,15 +90,15 @@ module _ (q : Run) (least : 1 ≤ q .shortest .m) where
           (p .right, p .grows-right, sym (place-right x z stop r (p .left) (p .right) above) ∙ sym (ap (placeOf x) (p .is)) ∙ e)
         where
           go : Dec (x ≤ r .split) → r .split < x
-          go (yes w) = absurd (f (omega (arith, l)) (of-cut (record { start = z; stop = stop }) (record { by = r; reached = h; is = c; at = omega (arith, l) })))
+          go (yes w) = absurd (f (omega (arith, l)) (of-cut (record { start = z; stop = stop }) (r .origin) (record { by = r; reached = h; is = c; at = omega (arith, l); from = refl })))
           go (no w) = omega arith
 
-      pub cut-place : (g : Segment) → CutOf q x g → placeOf x T ≡ atCut g
-      cut-place g c =
+      pub cut-place : (g : Segment) (o : Origin) → CutOf q x g o → placeOf x T ≡ atCut g o
+      cut-place g o c =
           let far = cut-far q (g .start) (g .stop) (c .by) (c .is) in
           let (t, k, e) = same-place (g .start) (g .stop) (c .reached) (omega (arith, far .left, c .at)) (omega (arith, far .right, c .at)) (λ i. absurd (omega (arith, far .left, c .at))) in
           let p = parts-of q (g .start) (g .stop) (c .by) t (c .is) k in
-          sym e ∙ ap (placeOf x) (p .is) ∙ place-at x (g .start) (g .stop) (c .by) (p .left) (p .right) (c .at)
+          sym e ∙ ap (placeOf x) (p .is) ∙ place-at x (g .start) (g .stop) (c .by) (p .left) (p .right) (c .at) ∙ rw (c .from)
 
       pub leaf-place : (start stop : ℕ) (t : Tree) → Grows q start stop t → isCut (ruling q start stop) ≡ false → placeOf x t ≡ uncutIn (record { start = start; stop = stop })
       unfolding placeOf
@@ -111,10 +112,10 @@ module _ (q : Run) (least : 1 ≤ q .shortest .m) where
 
       -- ---- so of a row of the run
       module _ (row : x < q .n) where
-        pub place-cut : (g : Segment) → placeOf x T ≡ atCut g → CutOf q x g
-        place-cut g e = rw e at (stands 0 (q .n) T whole run (omega arith) row)
+        pub place-cut : (g : Segment) (o : Origin) → placeOf x T ≡ atCut g o → CutOf q x g o
+        place-cut g o e = rw e at (stands 0 (q .n) T whole run (omega arith) row)
 
         pub place-held : (g : Segment) → placeOf x T ≡ uncutIn g → HeldBy q x g
         place-held g e =
             let w : Uncut g = rw e at (stands 0 (q .n) T whole run (omega arith) row) in
-            record { no-cut = λ c. let (h, k) = cut-of c in let f = cut-place h k in never (cc); reached = w .reached; uncut = w .uncut; low = w .low; high = w .high }
+            record { no-cut = λ c. let (h, o, k) = cut-of c in let f = cut-place h o k in never (cc); reached = w .reached; uncut = w .uncut; low = w .low; high = w .high }

@@ -12,9 +12,11 @@ use Rattle.scope.specs.Allowed.{Allowed}
 use Rattle.scope.specs.Candidates.{candidates}
 use Rattle.scope.specs.Greatest.{numeric, FirstGreatest}
 use Rattle.scope.specs.Grid.{Record, best, blank, trial, trials, ofSome, search}
-use Rattle.scope.specs.Layers.{Segment, one, stored}
+use Rattle.scope.specs.Origin as origin
+use Rattle.scope.specs.Layers.{StoredSegment, one, withOrigin, labelled, stored}
 use Rattle.scope.specs.Tree.{Run, direct, storedRecords}
 use Rattle.scope.proofs.Order.{both}
+use Rattle.scope.proofs.Never.{never}
 use Rattle.scope.proofs.Candidates.{candidates-are}
 use Rattle.scope.proofs.Greatest.{search-first, first-one, first-greatest, first-numeric}
 
@@ -63,6 +65,14 @@ module _ (q : Run) (start stop : ℕ) where
     pub direct-found : Found q start stop r
     direct-found = ⊎-elim (λ (e : r ≡ blank start stop). rw e blank-found) (trial-found r) (List·Memᴰ·cases-cons (first-one (direct-first r is)))
 
+    -- and it is direct
+    pub direct-origin : r .origin ≡ origin.direct
+    unfolding trials
+    direct-origin =
+        ⊎-elim (λ (e : r ≡ blank start stop). ap (λ (z : Record). z .origin) e)
+        (λ i. let (x, j, e) = Memᴰ·of-map (trial (q .gain) start stop) rows i in sym (ap (λ (z : Record). z .origin) e))
+        (List·Memᴰ·cases-cons (first-one (direct-first r is)))
+
     pub direct-numeric : numeric (r .gain) ≡ true
     direct-numeric = first-numeric (direct-first r is) refl
 
@@ -79,41 +89,50 @@ module _ (q : Run) (start stop : ℕ) where
       go [] i = absurd (List·Memᴰ·not-nil i)
       go (y ∷ l) i = (best (blank start stop) (y ∷ l), refl)
 
-  pub one-found : (r : Record) → r ∈ one (direct q start stop) → direct q start stop ≡ some r
-  one-found r i = go (direct q start stop) i
+  -- with another origin it is as found
+  pub labelled-found : (o : origin.Origin) (r : Record) → labelled o (direct q start stop) ≡ some r → Found q start stop r
+  labelled-found o r h = go (direct q start stop) refl h
     where
-      go : (o : Option Record) → r ∈ one o → o ≡ some r
-      go none i = absurd (List·Memᴰ·not-nil i)
-      go (some x) i = ap some (sym (List·Memᴰ·eq-of-singleton i))
+      go : (w : Option Record) → direct q start stop ≡ w → labelled o w ≡ some r → Found q start stop r
+      go none e k = never (cc)
+      go (some s) e k =
+          let same : withOrigin o s ≡ r = cc in
+          let f = direct-found s e in
+          let g : Found q start stop (withOrigin o s) = record { start-is = f .start-is; stop-is = f .stop-is; row = f .row; own = f .own } in
+          rw same at g
+
+pub one-found : (o : Option Record) (r : Record) → r ∈ one o → o ≡ some r
+one-found none r i = absurd (List·Memᴰ·not-nil i)
+one-found (some x) r i = ap some (sym (List·Memᴰ·eq-of-singleton i))
 
 -- ---- the records of the stored segments
 -- r is the record of one of these segments
-pub record OfStored (q : Run) (ss : List Segment) (r : Record) : Type 0 where
-  pub segment : Segment
+pub record OfStored (q : Run) (ss : List StoredSegment) (r : Record) : Type 0 where
+  pub segment : StoredSegment
   pub one : segment ∈ ss
-  pub found : direct q (segment .start) (segment .stop) ≡ some r
+  pub found : labelled (segment .origin) (direct q (segment .start) (segment .stop)) ≡ some r
 
 module _ (q : Run) where
-  stored-are : (ss : List Segment) (r : Record) → r ∈ stored (direct q) ss → OfStored q ss r
+  stored-are : (ss : List StoredSegment) (r : Record) → r ∈ stored (direct q) ss → OfStored q ss r
   unfolding stored
   stored-are [] r i = absurd (List·Memᴰ·not-nil i)
   stored-are (s ∷ ss) r i =
-      ⊎-elim (λ j. record { segment = s; one = List·Memᴰ·head refl; found = one-found q (s .start) (s .stop) r j })
+      ⊎-elim (λ j. record { segment = s; one = List·Memᴰ·head refl; found = one-found (labelled (s .origin) (direct q (s .start) (s .stop))) r j })
       (λ j. let f = stored-are ss r j in record { segment = f .segment; one = List·Memᴰ·tail (f .one); found = f .found })
-      (List·Memᴰ·append-cases (one (direct q (s .start) (s .stop))) i)
+      (List·Memᴰ·append-cases (one (labelled (s .origin) (direct q (s .start) (s .stop)))) i)
 
-  stored-all : (ss : List Segment) (s : Segment) (r : Record) → s ∈ ss → direct q (s .start) (s .stop) ≡ some r → r ∈ stored (direct q) ss
+  stored-all : (ss : List StoredSegment) (s : StoredSegment) (r : Record) → s ∈ ss → direct q (s .start) (s .stop) ≡ some r → withOrigin (s .origin) r ∈ stored (direct q) ss
   unfolding stored
   stored-all [] s r i h = absurd (List·Memᴰ·not-nil i)
   stored-all (z ∷ ss) s r i h =
-      ⊎-elim (λ e. Memᴰ·append-left {s = one (direct q (z .start) (z .stop))} _ (rw (← e, h) (List·Memᴰ·head refl)))
-      (λ j. Memᴰ·append-right (one (direct q (z .start) (z .stop))) (stored-all ss s r j h))
+      ⊎-elim (λ e. Memᴰ·append-left {s = one (labelled (z .origin) (direct q (z .start) (z .stop)))} _ (rw (← e, h) (List·Memᴰ·head refl)))
+      (λ j. Memᴰ·append-right (one (labelled (z .origin) (direct q (z .start) (z .stop)))) (stored-all ss s r j h))
       (List·Memᴰ·cases-cons i)
 
   pub segments-are : (r : Record) → r ∈ storedRecords q → OfStored q (q .segments) r
   unfolding storedRecords
   segments-are r i = stored-are (q .segments) r i
 
-  pub segments-all : (s : Segment) (r : Record) → s ∈ q .segments → direct q (s .start) (s .stop) ≡ some r → r ∈ storedRecords q
+  pub segments-all : (s : StoredSegment) (r : Record) → s ∈ q .segments → direct q (s .start) (s .stop) ≡ some r → withOrigin (s .origin) r ∈ storedRecords q
   unfolding storedRecords
   segments-all s r i h = stored-all (q .segments) s r i h

@@ -8,6 +8,7 @@ use Prim.Native.Nat.{ℕ, _+_, _≤_, _<_}
 use lib.Ieee.{lt, isNan}
 use Rattle.scope.specs.Lists.{_∈_}
 use Rattle.scope.specs.Asked.{Shortest, endOf}
+use Rattle.scope.specs.Origin.{Origin}
 use Rattle.scope.specs.Grid.{Record}
 use Rattle.scope.specs.Layers.{Segment}
 use Rattle.scope.specs.Tree.{Run, cut, treeOf, sheet}
@@ -16,12 +17,13 @@ use Rattle.scope.specs.Why.{Why, tooNear, barred, noNumber, notAbove, whyOf}
 use Rattle.demand.specs.Reached.{ruling, isCut, Reached, CutAt}
 
 -- ---- the segment
--- "it is a cut, and of which reached segment": the reached segment g is cut at x
-pub record CutOf (q : Run) (x : ℕ) (g : Segment) : Type 0 where
+-- "it is a cut, and of which reached segment": the reached segment g is cut at x, by a record of the origin o
+pub record CutOf (q : Run) (x : ℕ) (g : Segment) (o : Origin) : Type 0 where
   pub by : Record
   pub reached : Reached q (g .start) (g .stop)
   pub is : ruling q (g .start) (g .stop) ≡ cut by
   pub at : x ≡ by .split
+  pub from : o ≡ by .origin
 
 -- "the uncut segment that holds it": no reached segment is cut at x, and g is reached, uncut, and holds x
 pub record HeldBy (q : Run) (x : ℕ) (g : Segment) : Type 0 where
@@ -43,7 +45,7 @@ pub data FirstBarring (x a b : ℕ) : List ℕ → Type 0 where
 
 -- x is told w: the segment is its own, the reason true, and every earlier one false
 abbrev pub Because : Run → ℕ → Why → Type 0
-Because q x (Why.cut g) = CutOf q x g
+Because q x (Why.cut g o) = CutOf q x g o
 Because q x (tooNear g) = HeldBy q x g × Near (q .shortest) g x
 Because q x (barred a b g) = HeldBy q x g × (Near (q .shortest) g x → ⊥) × FirstBarring x a b (q .forbidden)
 Because q x (noNumber g) =
@@ -63,6 +65,6 @@ pub record Justified (q : Run) : Type 0 where
   -- and nothing else is
   pub only : (x : ℕ) (w : Why) → Because q x w → w ≡ whyOf q x
   -- a row is told to be a cut exactly if it is on the sheet
-  pub cut-exactly : (x : ℕ) → x < q .n → ((g : Segment) × (whyOf q x ≡ Why.cut g)) ↔ (x ∈ sheet (treeOf q))
+  pub cut-exactly : (x : ℕ) → x < q .n → ((g : Segment) × (o : Origin) × (whyOf q x ≡ Why.cut g o)) ↔ (x ∈ sheet (treeOf q))
   -- "Row 0 is too near an end."
   pub row-0 : (g : Segment) × (whyOf q 0 ≡ tooNear g)

@@ -13,8 +13,8 @@ use Rattle.scope.specs.Allowed.{Pair, Ascending}
 use Rattle.scope.specs.Greatest.{numeric, FirstGreatest}
 use Rattle.scope.specs.Grid.{Record}
 use Rattle.scope.specs.Layers.{Segment}
-use Rattle.scope.specs.Tree.{Run, direct, inside, choice, cut, Tree, grown, treeOf, recordsOf, Node, nodes, nodeCount, cuts, sheet, mostNodes}
-use Rattle.demand.specs.Reached.{ruling, isCut, Reached, Chosen, CutAt, CutBy}
+use Rattle.scope.specs.Tree.{Run, direct, storedRecords, inside, choice, cut, Tree, grown, treeOf, recordsOf, Node, nodes, nodeCount, cuts, sheet, mostNodes}
+use Rattle.demand.specs.Reached.{ruling, isCut, Reached, Chosen, CutAt, CutBy, CameFrom}
 use Rattle.demand.specs.Grows.{Grows, directs}
 use Rattle.demand.specs.Offered.{Offered, Greatest}
 use Rattle.demand.specs.Spaced.{Spaced, lastGap}
@@ -46,6 +46,8 @@ pub record Demand (q : Run) : Type 0 where
   -- ---- the choice, among any stored records
   -- the direct record, unless a stored record inside is strictly greater; then the earliest with the greatest
   pub first : (rs : List Record) (start stop : ℕ) (d : Record) → direct q start stop ≡ some d → (c : Record) × (choice q rs start stop ≡ some c) × FirstGreatest d (inside start stop rs) c
+  -- its origin tells where it comes from
+  pub from : (start stop : ℕ) (r : Record) → choice q (storedRecords q) start stop ≡ some r → CameFrom q start stop r
   -- and none where there is no direct record
   pub no-direct : (rs : List Record) (start stop : ℕ) → direct q start stop ≡ none → choice q rs start stop ≡ none
   -- ---- the records made while the tree grows

@@ -6,13 +6,13 @@ use lib.Ieee.{Float, lt}
 use Rattle.scope.specs.Lists.{_∈_}
 use Rattle.scope.specs.Allowed.{Allowed}
 use Rattle.scope.specs.Greatest.{numeric}
-use Rattle.scope.specs.Layers.{Segment}
+use Rattle.scope.specs.Layers.{StoredSegment}
 use Rattle.scope.specs.Tree.{Run}
 
 -- the gains over the segment's own allowed rows, and over those of the stored segments inside it
 pub data Offered (q : Run) (start stop : ℕ) : Float → Type 0 where
   own : {x : ℕ} → Allowed (q .shortest) (q .forbidden) start stop x → Offered q start stop (q .gain start stop x)
-  ofStored : {s : Segment} {x : ℕ}
+  ofStored : {s : StoredSegment} {x : ℕ}
       → s ∈ q .segments
       → start ≤ s .start
       → s .stop ≤ stop

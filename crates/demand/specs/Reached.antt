@@ -1,11 +1,15 @@
 -- The segments that are reached, and the cuts: what "is cut there" means, with no tree. Assumes nothing.
 use mathlib.Core.Path.{_≡_}
 use mathlib.Core.Bool.{Bool, true, false}
+use mathlib.Core.Option.{some}
 use Prim.Native.Nat.{ℕ, _≤_}
 use lib.Ieee.{lt}
 use Rattle.scope.specs.Allowed.{Allowed}
+use Rattle.scope.specs.Lists.{_∈_}
+use Rattle.scope.specs.Origin as origin
 use Rattle.scope.specs.Grid.{Record}
-use Rattle.scope.specs.Tree.{Run, Verdict, uncut, cut, storedRecords, verdict}
+use Rattle.scope.specs.Layers.{StoredSegment, labelled}
+use Rattle.scope.specs.Tree.{Run, direct, Verdict, uncut, cut, storedRecords, verdict}
 
 -- what becomes of [start, stop): the verdict where the records are those of the stored segments alone
 unfoldable pub ruling : Run → ℕ → ℕ → Verdict
@@ -42,3 +46,13 @@ pub record CutBy (q : Run) (start stop : ℕ) (r : Record) : Type 0 where
   pub row : Allowed (q .shortest) (q .forbidden) (r .start) (r .stop) (r .split)
   pub own : r .gain ≡ q .gain (r .start) (r .stop) (r .split)
   pub exceeds : lt (q .threshold) (r .gain) ≡ true
+
+-- where the record r that [start, stop) chooses comes from, as its origin tells: it is the segment's own; or that of a stored segment inside, with its origin
+pub data CameFrom (q : Run) (start stop : ℕ) (r : Record) : Type 0 where
+  itself : r .origin ≡ origin.direct → direct q start stop ≡ some r → CameFrom q start stop r
+  within : {s : StoredSegment}
+      → s ∈ q .segments
+      → start ≤ s .start
+      → s .stop ≤ stop
+      → labelled (s .origin) (direct q (s .start) (s .stop)) ≡ some r
+      → CameFrom q start stop r

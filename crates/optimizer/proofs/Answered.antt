@@ -1,5 +1,5 @@
 -- A search's answer from the code's own types: the split and its gain, or the number; and the record of `search`, or none. Assumes nothing.
-use mathlib.Core.Path.{_≡_, ap}
+use mathlib.Core.Path.{_≡_, sym, ap, _∙_}
 use mathlib.Core.List.{List}
 use mathlib.Core.Option.{none, some}
 use Prim.Native.Nat.{ℕ}
@@ -14,6 +14,7 @@ use Rattle.optimizer.specs.declared.optimizer_result.BestSplit.the-varia
 use Rattle.optimizer.specs.declared.optimizer_result.GainRecord.{GainRecord}
 use Rattle.optimizer.specs.declared.optimizer_result.Searched.the-variants as handed
 use Rattle.optimizer.specs.Records.{toRecord, fromRecord, bestSplitOf, searchedOf, searched}
+use Rattle.optimizer.proofs.Origins.{to-from}
 use Rattle.optimizer.proofs.Found.{found-search, found-ends, refused-search}
 
 pub found-given : (a : Answer Split) (p : Position) (v : Float) → bestSplitOf a ≡ Found p v → a ≡ given (record { split = p .0; gain = v })
@@ -30,7 +31,7 @@ refused-number (given s) k h = never (cc)
 -- ---- inside the library, where the answer is of the type that hands the record on
 pub record-given : (a : Answer Record) (r : GainRecord) → searchedOf a ≡ handed.Record r → a ≡ given (toRecord r)
 record-given (refused k) r h = never (cc)
-record-given (given s) r h = let w : fromRecord s ≡ r = cc in ap (λ (z : GainRecord). given (toRecord z)) w
+record-given (given s) r h = let w : fromRecord s ≡ r = cc in ap given (sym (to-from s)) ∙ ap (λ (z : GainRecord). given (toRecord z)) w
 
 pub number-given : (a : Answer Record) (k : ℕ) → searchedOf a ≡ handed.Refused k → a ≡ refused k
 number-given (refused j) k h = cc

@@ -4,7 +4,7 @@ use mathlib.Core.List.{List}
 use Prim.Native.Nat.{ℕ, _*_, _≤_}
 use lib.Ieee.{Float}
 use lib.ListN.{length}
-use Rattle.scope.specs.Layers.{Segment}
+use Rattle.scope.specs.Layers.{StoredSegment}
 use Rattle.scope.specs.Tree.{storedRecords}
 use Rattle.scope.specs.Why.{whyOf}
 use Rattle.stored.specs.Flat.{recordsIn}
@@ -16,12 +16,12 @@ use Rattle.reasons.specs.Answers.{fromWhy}
 -- the first `count` records are those of some segments
 pub record Ready (sums : List Float) (forbidden : List ℕ) (s : Asked) (n : ℕ) (rows : List ℕ) (gains : List Float) (count : ℕ) : Type 0 where
   pub least : 1 ≤ s .settings .shortest .m
-  pub segments : List Segment
+  pub segments : List StoredSegment
   pub stand : storedRecords (runOver sums forbidden s n segments) ≡ recordsIn rows gains count
-  pub room-rows : 3 * count ≤ length rows
+  pub room-rows : 5 * count ≤ length rows
   pub room-gains : count ≤ length gains
 
 -- what is told of the row x
 abbrev pub Told : List Float → List ℕ → Asked → ℕ → List ℕ → List Float → ℕ → ℕ → Why → Type 0
 Told sums forbidden s n rows gains count x r =
-    (segments : List Segment) → storedRecords (runOver sums forbidden s n segments) ≡ recordsIn rows gains count → r ≡ fromWhy (whyOf (runOver sums forbidden s n segments) x)
+    (segments : List StoredSegment) → storedRecords (runOver sums forbidden s n segments) ≡ recordsIn rows gains count → r ≡ fromWhy (whyOf (runOver sums forbidden s n segments) x)

@@ -1,6 +1,7 @@
 // Why a row is not on the sheet: what is told of it, and the walk from the whole run down to the segment that it is told of. Inside the library.
 // proofs/ shows that it is what the definitions tell, and crates/demand that this is so of the data.
 use control::Shortest;
+use optimizer::optimizer_result::Origin;
 use rows::Position;
 use rows::Segment;
 use verdict::Asked;
@@ -17,10 +18,10 @@ ghost use Rattle.verdict.specs.Rules.{over, Sized};
 ghost use Rattle.reasons.specs.Answers.{fromWhy, fromBarring};
 ghost use Rattle.reasons.specs.Walked.{Ready, Told};
 
-// What is told of a row, each with the segment that it is told of: it is the cut of that reached segment; or, of the uncut one that holds it, the first that
-// applies. A row is barred by the first listed pair that bars it, and a gain is the row's own in that segment.
+// What is told of a row, each with the segment that it is told of: it is the cut of that reached segment, by a record of this origin; or, of the uncut one that
+// holds it, the first that applies. A row is barred by the first listed pair that bars it, and a gain is the row's own in that segment.
 pub enum Why {
-    Cut(Segment),
+    Cut(Segment, Origin),
     TooNear(Segment),
     Barred(usize, usize, Segment),
     NoNumber(Segment),
@@ -139,7 +140,8 @@ pub fn explain(
         };
         let split = choice.best_split;
         if row.0 == split.0 {
-            return Why::Cut(Segment { start, stop });
+            let origin = choice.origin;
+            return Why::Cut(Segment { start, stop }, origin);
         }
         if row.0 < split.0 {
             stop = split;

@@ -1,16 +1,17 @@
 -- "NaN never does" win: the gain of every record that a search makes, that the tree stores and that a node chooses is numeric, whatever the gains are. Assumes nothing.
-use mathlib.Core.Path.{_≡_, refl}
+use mathlib.Core.Path.{_≡_, refl, ap}
 use mathlib.Core.Logic.{⊎-elim}
 use mathlib.Core.Bool.{Bool, true, false, cond}
 use mathlib.Core.List.{List, [], _∷_, _++_, List·Memᴰ·not-nil, List·Memᴰ·cases-cons, List·Memᴰ·append-cases, List·Memᴰ·eq-of-singleton}
 use mathlib.Core.Option.{Option, none, some}
 use Prim.Native.Nat.{ℕ, zero, suc, _+_}
-use lib.Ieee.{Float, lt}
+use lib.Ieee.{Float, nan, lt}
 use Rattle.scope.specs.Lists.{_∈_}
 use Rattle.scope.specs.Greatest.{numeric}
 use Rattle.scope.specs.Asked.{Shortest}
 use Rattle.scope.specs.Grid.{Record, best, search}
-use Rattle.scope.specs.Layers.{Segment, one, stored}
+use Rattle.scope.specs.Origin.{Origin}
+use Rattle.scope.specs.Layers.{StoredSegment, one, labelled, stored}
 use Rattle.scope.specs.Tree.{Run, direct, storedRecords, inside, chosen, choice, Verdict, uncut, cut, judged, verdict, Tree, leaf, node, Grown, parted, grow, grown, treeOf, recordsOf, Node, nodes, nodeCount}
 use Rattle.scope.proofs.Never.{never}
 use Rattle.scope.proofs.Greatest.{best-is-first, search-first, first-numeric}
@@ -34,12 +35,21 @@ one-numbers : (o : Option Record) → NumericIfSome o → NumericGains (one o)
 one-numbers none h r i = absurd (List·Memᴰ·not-nil i)
 one-numbers (some s) h r i = rw (List·Memᴰ·eq-of-singleton i) (h s refl)
 
+labelled-number : (w : Origin) (o : Option Record) → NumericIfSome o → NumericIfSome (labelled w o)
+labelled-number w none h r e = never (cc)
+labelled-number w (some s) h r e = let same : s .gain ≡ r .gain = ap gainOf e in rw same at (h s refl)
+  where
+    gainOf : Option Record → Float
+    gainOf none = nan
+    gainOf (some z) = z .gain
+
 -- what searches leave
-pub stored-numbers : (find : ℕ → ℕ → Option Record) → ((start stop : ℕ) → NumericIfSome (find start stop)) → (ss : List Segment) → NumericGains (stored find ss)
+pub stored-numbers : (find : ℕ → ℕ → Option Record) → ((start stop : ℕ) → NumericIfSome (find start stop)) → (ss : List StoredSegment) → NumericGains (stored find ss)
 unfolding stored
 stored-numbers find h [] r i = absurd (List·Memᴰ·not-nil i)
 stored-numbers find h (s ∷ ss) r i =
-    append-numbers (one (find (s .start) (s .stop))) (stored find ss) (one-numbers (find (s .start) (s .stop)) (h (s .start) (s .stop))) (stored-numbers find h ss) r i
+    let o = labelled (s .origin) (find (s .start) (s .stop)) in
+    append-numbers (one o) (stored find ss) (one-numbers o (labelled-number (s .origin) (find (s .start) (s .stop)) (h (s .start) (s .stop)))) (stored-numbers find h ss) r i
 
 -- what a search finds
 pub search-number : (gain : ℕ → ℕ → ℕ → Float) (s : Shortest) (forbidden : List ℕ) (start stop : ℕ) → NumericIfSome (search gain s forbidden start stop)

@@ -14,13 +14,15 @@ use Rattle.scope.specs.Asked.{Matrix}
 use Rattle.scope.specs.Refusals.{Test, test, firstOf, given, unless, toldUnless, mostRows, mostNeighbours, mostColumns, mostPermutations, outside, wrongMatrix, wrongSegment}
 use Rattle.scope.specs.Rounding.{wholeRoot}
 use Rattle.scope.specs.Sums.{flatSums, prefixSums}
+use Rattle.scope.specs.Origin.{direct}
 use Rattle.scope.specs.Grid.{Record, blank, best, trials, search}
 use Rattle.scope.specs.Greatest.{numeric}
 use Rattle.scope.specs.Neighbours.{distances, countOf, predictions}
 use Rattle.scope.specs.Curves.{picked}
 use Rattle.scope.specs.Permutations.{wrongPermutations}
 use Rattle.scope.specs.Calls.{Split, splitOf, sumsOf, gainIn, gainTests, gainRefusal, gainCall, searchTests, searchRefusal, searchCall, storedTests, storedRefusal, searchIn, segmentsOf, storedOf, storedCall, treeTests, treeRefusal, runOf, treeCall, orderingTests, orderingRefusal, lastDistances, orderingCall, PredictAsked, predictTests, predictRefusal, predictionsOf, predictCall, PickAsked, pickTests, pickAnswer, Tested, PermutationAsked, within, permutationTests, testedOf, counterOf, permutationAnswer}
-use Rattle.scope.specs.Tree.{direct, storedRecords}
+use Rattle.scope.specs.Tree.{storedRecords}
+use Rattle.scope.specs.Tree as tree
 use Rattle.scope.specs.Why.{notAbove, whyOf, whyTests, whyRefusal, whyCall}
 use Rattle.scope.specs.Numbers.{AllNumeric, AllF64, NeverNaN}
 use Rattle.scope.proofs.Members.{at-in, every-of}
@@ -166,7 +168,7 @@ answered k r s h e = let (z, is) = given-is k (splitOf r) s e in sym (ap (λ (w 
 pick-numeric : (a : PickAsked) (s : Split) → pickAnswer a ≡ given s → numeric (s .gain) ≡ true
 unfolding pickAnswer picked
 pick-numeric a s e =
-    let first : Record = record { start = a .start; stop = a .stop; split = a .guess; gain = lowest } in
+    let first : Record = record { start = a .start; stop = a .stop; split = a .guess; gain = lowest; origin = direct } in
     answered (firstOf (pickTests a)) (best first (trials (λ start stop x. at (a .curve) (x - start)) (a .shortest) (a .forbidden) (a .start) (a .stop))) s (best-numeric first _ refl) e
 
 -- ---- the permutation test's p: P + 1 is 1 or more
@@ -188,7 +190,7 @@ never-NaN =
       why-sums = λ a. sums-told (a .matrix) (whyRefusal a) (sized-by mostRows (omega arith) (a .matrix) (whyTests a) (all-in-order .why a) refl 3 (omega arith) refl);
       search = λ a s. answered (searchRefusal a) (best (blank (a .start) (a .stop)) (trials (gainIn (a .matrix)) (a .shortest) (a .forbidden) (a .start) (a .stop))) s (best-numeric (blank (a .start) (a .stop)) _ refl);
       stored = λ a r i. stored-numbers (searchIn (a .matrix) (a .shortest) (a .forbidden)) (search-number (gainIn (a .matrix)) (a .shortest) (a .forbidden)) (segmentsOf (a .matrix) (a .shortest) (a .forbidden) (a .source)) r (told-in (storedRefusal a) (storedOf a) r i);
-      why = λ a r i. stored-numbers (direct (runOf (a .matrix) (a .settings))) (search-number (gainIn (a .matrix)) (a .settings .shortest) (a .settings .forbidden)) (runOf (a .matrix) (a .settings) .segments) r (told-in (whyRefusal a) _ r i);
+      why = λ a r i. stored-numbers (tree.direct (runOf (a .matrix) (a .settings))) (search-number (gainIn (a .matrix)) (a .settings .shortest) (a .settings .forbidden)) (runOf (a .matrix) (a .settings) .segments) r (told-in (whyRefusal a) _ r i);
       tree = λ a r i. records-numbers (runOf (a .matrix) (a .settings)) r (told-in (treeRefusal a) _ r i);
       node = λ a d r i. nodes-numbers (runOf (a .matrix) (a .settings)) d (told-in (treeRefusal a) _ d i) r;
       not-above = λ a gain g e. told-number (runOf (a .matrix) (a .settings)) (a .row) gain g (given-is (whyRefusal a) (whyOf (runOf (a .matrix) (a .settings)) (a .row)) (notAbove gain g) e .1);

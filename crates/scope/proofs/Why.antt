@@ -31,5 +31,5 @@ module _ (q : Run) (x : ℕ) (v : Float) (g : Segment) where
   told-number is = go (placeOf x (treeOf q)) is
     where
       go : (p : Place) → byPlace q x p ≡ notAbove v g → numeric v ≡ true
-      go (atCut h) is = never (cc)
+      go (atCut h o) is = never (cc)
       go (uncutIn h) is = by-reason (isNear (q .shortest) h x) (firstBarring (q .forbidden) x) _ h is

@@ -15,7 +15,7 @@ use Rattle.scope.specs.Candidates.{candidates, rangeSize, no10}
 use Rattle.scope.specs.Sums.{prefixSums}
 use Rattle.scope.specs.Gain.{gainOf}
 use Rattle.scope.specs.Grid.{Record, blank, best, trials, search}
-use Rattle.scope.specs.Layers.{Segment, stored}
+use Rattle.scope.specs.Layers.{StoredSegment, stored}
 use Rattle.scope.specs.Draws.{storedSegments, mostStored, sourceTests, no8-draws}
 use Rattle.scope.specs.Tree.{Run, storedRecords, treeOf, recordsOf, Node, nodes, nodeCount, sheet, mostNodes}
 use Rattle.scope.specs.Neighbours.{orders, distances, predictions}
@@ -169,7 +169,7 @@ storedRefusal a = firstOf (storedTests a)
 abbrev pub searchIn : Matrix → Shortest → List ℕ → ℕ → ℕ → Option Record
 searchIn x short forbidden start stop = search (gainIn x) short forbidden start stop
 
-abbrev pub segmentsOf : Matrix → Shortest → List ℕ → Source → List Segment
+abbrev pub segmentsOf : Matrix → Shortest → List ℕ → Source → List StoredSegment
 segmentsOf x short forbidden source = storedSegments (searchIn x short forbidden) (x .n) source
 
 -- their records

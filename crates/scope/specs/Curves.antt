@@ -10,6 +10,7 @@ use Rattle.scope.specs.Floats.{_⊕_, _⊖_, +0, lowest}
 use Rattle.scope.specs.Lists.{at, select}
 use Rattle.scope.specs.Asked.{Shortest}
 use Rattle.scope.specs.Candidates.{candidates}
+use Rattle.scope.specs.Origin.{direct}
 use Rattle.scope.specs.Grid.{Record, best, trials}
 
 -- ---- "g[0] = 0, g[i+1] = (l0[i]-l1[i]) + g[i], then add the left-to-right sum of l1 from 0 to each"
@@ -30,7 +31,7 @@ curve l0 l1 (suc k) = curve l0 l1 k ++ ((raised l0 l1 k ⊕ totalOf l1 (length l
 -- ---- "Pick: start from the guess and minus infinity; over the candidates x, g[x-start] strictly greater wins."
 unfoldable pub picked : Shortest → List ℕ → ℕ → ℕ → ℕ → List Float → Record
 picked s forbidden start stop guess g =
-    best (record { start = start; stop = stop; split = guess; gain = lowest }) (trials (λ a e x. at g (x - a)) s forbidden start stop)
+    best (record { start = start; stop = stop; split = guess; gain = lowest; origin = direct }) (trials (λ a e x. at g (x - a)) s forbidden start stop)
 
 -- ---- Guesses
 

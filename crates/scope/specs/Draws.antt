@@ -3,22 +3,28 @@ use mathlib.Core.Path.{_≡_}
 use mathlib.Core.Bool.{Bool, true, false, not, _&&_}
 use mathlib.Core.List.{List, [], _∷_}
 use mathlib.Core.Option.{Option, none, some}
-use Prim.Native.Nat.{ℕ, _%_, _≤_, _<_}
+use Prim.Native.Nat.{ℕ, suc, _+_, _*_, _%_, _≤_, _<_}
 use lib.Dec.{ltb, eqb}
 use lib.Ieee.{Float}
-use lib.ListN.{length, take}
+use lib.ListN.{length, getD, take}
 use Rattle.scope.specs.Lists.{_∈_, select, every, isEmpty}
 use Rattle.scope.specs.Asked.{Source}
 use Rattle.scope.specs.Refusals.{Test, test, no6}
 use Rattle.scope.specs.Allowed.{Pair}
+use Rattle.scope.specs.Origin.{Origin, draw}
 use Rattle.scope.specs.Grid.{Record}
-use Rattle.scope.specs.Layers.{Segment, seeded, layersTotal, stored}
+use Rattle.scope.specs.Layers.{Segment, StoredSegment, ofOrigin, endsOf, seeded, layersTotal, stored}
 
 -- "the draws as a lent list of (start, stop) pairs": the pairs of a flat list, in its order
 unfoldable pub pairsOf : List ℕ → List Segment
 pairsOf [] = []
 pairsOf (a ∷ []) = []
 pairsOf (a ∷ b ∷ ds) = record { start = a; stop = b } ∷ pairsOf ds
+
+-- each with its "place in the draw list from 0": those passed over are counted
+unfoldable pub numbered : ℕ → List Segment → List StoredSegment
+numbered k [] = []
+numbered k (s ∷ ss) = ofOrigin (draw k) s ∷ numbered (suc k) ss
 
 -- "Pairs with start >= stop are passed over"
 abbrev pub isSearched : Segment → Bool
@@ -31,8 +37,8 @@ isFound (some r) = true
 
 -- "the others are searched in order, and those that answer are stored, until W records stand or the list ends": the first W of the pairs with
 -- start < stop whose search answers
-unfoldable pub drawn : (ℕ → ℕ → Option Record) → List ℕ → ℕ → List Segment
-drawn find draws W = take W (select (λ s. isSearched s && isFound (find (s .start) (s .stop))) (pairsOf draws))
+unfoldable pub drawn : (ℕ → ℕ → Option Record) → List ℕ → ℕ → List StoredSegment
+drawn find draws W = take W (select (λ s. isSearched (endsOf s) && isFound (find (s .start) (s .stop))) (numbered 0 (pairsOf draws)))
 
 -- ---- "A run has layers or draws, not both": what its draws give if it has any, else what its layers give
 abbrev pub byDraws : {A : Type 0} → List ℕ → A → A → A
@@ -40,7 +46,7 @@ byDraws [] layered wild = layered
 byDraws (d ∷ ds) layered wild = wild
 
 -- the stored segments of a run of n rows, find being the search of a segment
-abbrev pub storedSegments : (ℕ → ℕ → Option Record) → ℕ → Source → List Segment
+abbrev pub storedSegments : (ℕ → ℕ → Option Record) → ℕ → Source → List StoredSegment
 storedSegments find n s = byDraws (s .draws) (seeded n (s .layers)) (drawn find (s .draws) (s .W))
 
 -- "T is W"; without draws "the layers' counts summed"
@@ -81,10 +87,20 @@ anyPast n draws = not (every (λ s. not (isPast n s)) (pairsOf draws))
 abbrev pub no8-draws : ℕ → Source → Test
 no8-draws n s = test (anyPast n (s .draws)) 8
 
+-- ---- the origin is the number of a pair, from 0, and that pair is the segment's ends
+pub record PairAt (draws : List ℕ) (o : Origin) (s : Segment) : Type 0 where
+  pub number : ℕ
+  pub is : o ≡ draw number
+  pub within : 2 * number + 1 < length draws
+  pub start-is : getD draws (2 * number) 0 ≡ s .start
+  pub stop-is : getD draws (2 * number + 1) 0 ≡ s .stop
+
 -- ---- the stored draws, in a reader's words. proofs/Draws.antt has this for every search, list and W
 pub record StoredDraws (find : ℕ → ℕ → Option Record) (draws : List ℕ) (W : ℕ) : Type 0 where
   -- each is a pair of the list with start < stop, and its search answers
-  pub are : (s : Segment) → s ∈ drawn find draws W → Pair (s .start) (s .stop) draws × (s .start < s .stop) × ((r : Record) × (find (s .start) (s .stop) ≡ some r))
+  pub are : (s : StoredSegment) → s ∈ drawn find draws W → Pair (s .start) (s .stop) draws × (s .start < s .stop) × ((r : Record) × (find (s .start) (s .stop) ≡ some r))
+  -- its origin is its place in the list
+  pub placed : (s : StoredSegment) → s ∈ drawn find draws W → PairAt draws (s .origin) (endsOf s)
   -- each leaves its record: so the number stored is theirs
   pub counted : length (stored find (drawn find draws W)) ≡ length (drawn find draws W)
   -- W at most
@@ -95,4 +111,4 @@ pub record StoredDraws (find : ℕ → ℕ → Option Record) (draws : List ℕ)
       → Pair a b draws
       → a < b
       → find a b ≡ some r
-      → record { start = a; stop = b } ∈ drawn find draws W
+      → (o : Origin) × (record { start = a; stop = b; origin = o } ∈ drawn find draws W)

@@ -1,6 +1,6 @@
 -- Layers and stored segments.
 use mathlib.Core.Bool.{false, cond}
-use mathlib.Core.List.{List, [], _∷_, _++_}
+use mathlib.Core.List.{List, [], _∷_, _++_, map}
 use mathlib.Core.Option.{Option, none, some}
 use Prim.Native.Nat.{ℕ, zero, suc, _+_, _-_, _*_, min}
 use lib.Dec.{eqb}
@@ -8,12 +8,25 @@ use lib.IntN.{pos}
 use lib.Ieee.{Float, fin}
 use Rattle.scope.specs.Floats.{_⊖_, _⊗_, _⊘_, whole}
 use Rattle.scope.specs.Rounding.{toF32, truncation, ceiling}
-use Rattle.scope.specs.Grid.{Record, search}
+use Rattle.scope.specs.Origin.{Origin, layer}
+use Rattle.scope.specs.Grid.{Record}
 
 -- a segment [start, stop) of the run
 pub record Segment : Type 0 where
   pub start : ℕ
   pub stop : ℕ
+
+-- a segment that is searched beforehand, and its origin
+pub record StoredSegment : Type 0 where
+  pub start : ℕ
+  pub stop : ℕ
+  pub origin : Origin
+
+abbrev pub ofOrigin : Origin → Segment → StoredSegment
+ofOrigin o s = record { start = s .start; stop = s .stop; origin = o }
+
+abbrev pub endsOf : StoredSegment → Segment
+endsOf s = record { start = s .start; stop = s .stop }
 
 -- "len = n*v"
 unfoldable pub layerLength : ℕ → Float → Float
@@ -40,10 +53,13 @@ unfoldable pub layerSegments : ℕ → Float → ℕ → List Segment
 layerSegments n v zero = []
 layerSegments n v (suc k) = layerSegments n v k ++ (record { start = layerStart n v k; stop = layerStop n v k } ∷ [])
 
--- the seeded segments: layer after layer. "No layers means BS."
-unfoldable pub seeded : ℕ → List Float → List Segment
-seeded n [] = []
-seeded n (v ∷ vs) = layerSegments n v (layerCount v) ++ seeded n vs
+-- the seeded segments: layer after layer, each with its "layer number from 1". "No layers means BS."
+unfoldable pub seededFrom : ℕ → ℕ → List Float → List StoredSegment
+seededFrom k n [] = []
+seededFrom k n (v ∷ vs) = map (ofOrigin (layer k)) (layerSegments n v (layerCount v)) ++ seededFrom (suc k) n vs
+
+abbrev pub seeded : ℕ → List Float → List StoredSegment
+seeded n layers = seededFrom 1 n layers
 
 -- T, "the layers' counts summed"
 unfoldable pub layersTotal : List Float → ℕ
@@ -55,7 +71,15 @@ abbrev pub one : Option Record → List Record
 one none = []
 one (some r) = r ∷ []
 
+-- a record with another origin: what a search makes is direct, and storing gives the others
+abbrev pub withOrigin : Origin → Record → Record
+withOrigin o r = record { start = r .start; stop = r .stop; split = r .split; gain = r .gain; origin = o }
+
+abbrev pub labelled : Origin → Option Record → Option Record
+labelled o none = none
+labelled o (some r) = some (withOrigin o r)
+
 -- the stored records: "A segment that a single search would refuse leaves no record."
-unfoldable pub stored : (ℕ → ℕ → Option Record) → List Segment → List Record
+unfoldable pub stored : (ℕ → ℕ → Option Record) → List StoredSegment → List Record
 stored find [] = []
-stored find (s ∷ ss) = one (find (s .start) (s .stop)) ++ stored find ss
+stored find (s ∷ ss) = one (labelled (s .origin) (find (s .start) (s .stop))) ++ stored find ss

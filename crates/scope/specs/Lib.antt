@@ -1,4 +1,4 @@
--- Document 01, section by section, in its order; and beside it what document 02 adds: the closed end, draws, and why a row is not on the sheet.
+-- Document 01, section by section, in its order; and beside it what document 02 adds: the closed end, draws, why a row is not on the sheet, and where a cut came from.
 pub mod Floats
 pub mod Lists
 pub mod Asked
@@ -9,6 +9,8 @@ pub mod Allowed
 pub mod Sums
 pub mod Gain
 pub mod Columns
+pub mod Text
+pub mod Origin
 pub mod Grid
 pub mod Greatest
 pub mod Layers
@@ -22,7 +24,6 @@ pub mod Sorted
 pub mod Calls
 pub mod Why
 pub mod Numbers
-pub mod Text
 pub mod Program
 pub mod WhyText
 pub mod Marked

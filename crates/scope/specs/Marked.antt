@@ -16,9 +16,10 @@ use Rattle.scope.specs.Rounding.{nearestOf, truncation, ceiling, minimal
 use Rattle.scope.specs.Candidates.{isBarred, rangeSize, candidates, allBarred}
 use Rattle.scope.specs.Sums.{flatSums, prefixSums}
 use Rattle.scope.specs.Gain.{term, terms, innerGain, gainOf}
+use Rattle.scope.specs.Origin.{Origin, direct, layer, draw, originText}
 use Rattle.scope.specs.Grid.{Record, better, best, trials, search}
-use Rattle.scope.specs.Layers.{Segment, layerLength, layerCount, layerStep, layerStart, layerStop, layerSegments, seeded, layersTotal, stored}
-use Rattle.scope.specs.Draws.{pairsOf, drawn, isOdd, bothGiven, anyPast}
+use Rattle.scope.specs.Layers.{Segment, endsOf, layerLength, layerCount, layerStep, layerStart, layerStop, layerSegments, seededFrom, seeded, layersTotal, stored}
+use Rattle.scope.specs.Draws.{pairsOf, numbered, drawn, isOdd, bothGiven, anyPast}
 use Rattle.scope.specs.Tree.{storedRecords, inside, choice, verdict, grow, grown, recordsOf, nodeCount, nodes, cuts, sheet}
 use Rattle.scope.specs.Neighbours.{difference, squares, distances, insert, ordered, orderOf, others, neighbours, countOf, predictions}
 use Rattle.scope.specs.Curves.{guesses}
@@ -44,6 +45,8 @@ data Case : Type 0 where
   guessesOf : Shortest → (start stop : ℕ) → Option (List ℕ) → Case
   whyOfRow : List ℕ → Shortest → Float → List ℕ → Source → ℕ → Case
   lineOf : ℕ → String → Case
+  originsBy : List ℕ → Source → Case
+  originTold : Source → ℕ → ℕ → Case
 
 -- what is seen of it
 data Seen : Type 0 where
@@ -59,6 +62,8 @@ data Seen : Type 0 where
   least : Answer ℕ → Seen
   guessed : Answer (List ℕ) → Seen
   why : Answer Why → Seen
+  origins : List Origin → Seen
+  told : Answer Why → List ℕ → Seen
 
 abbrev room : ℕ
 room = 64
@@ -78,8 +83,16 @@ from start stop = record { start = start; stop = stop }
 wild : List ℕ → ℕ → Source
 wild draws W = record { layers = []; draws = draws; W = W }
 
+-- layers alone, of the values 1/2 and 3/4
+layered : Source
+layered = record { layers = fin false 1 (negsuc 0) ∷ fin false 3 (negsuc 1) ∷ []; draws = []; W = 0 }
+
+-- rows that by themselves have gain 32, at 4, and in [0,6) 256/3, at 4
+hump : List ℕ
+hump = 0 ∷ 0 ∷ 0 ∷ 0 ∷ 8 ∷ 8 ∷ 0 ∷ 0 ∷ []
+
 run : Case → Seen
-unfolding column ample from
+unfolding column ample from hump
 run (allowedRows s start stop forbidden) =
     let told = candidatesCall (record { n = 10; shortest = s; forbidden = forbidden; start = start; stop = stop; room = room }) in
     rows (told .answer) (told .rows)
@@ -109,13 +122,20 @@ run (permuted deltas base s maximum P permutations) =
       P = P;
       permutations = permutations;
     }))
-run (seededBy n v) = segments (seeded n (v ∷ []))
+run (seededBy n v) = segments (map endsOf (seeded n (v ∷ [])))
 run (lengthOf r n) = least (lengthAnswer r n)
 run (guessesOf s start stop forbidden) = guessed (guessesAnswer (record { n = 10; shortest = s; forbidden = forbidden; start = start; stop = stop }))
 run (whyOfRow cells s t forbidden source row) =
     let settings : Settings = record { shortest = s; threshold = t; forbidden = forbidden; source = source } in
-    why (whyCall (record { matrix = column cells; settings = settings; row = row; sums = room; records = room }) .answer)
+    why (whyCall (record { matrix = column cells; settings = settings; row = row; sums = room; records = room; text = room }) .answer)
 run (lineOf row input) = text (whyProgram row (bytes input))
+run (originsBy cells source) =
+    let told = storedCall (record { matrix = column cells; shortest = off 1; forbidden = []; source = source; sums = room; records = room }) in
+    origins (map (λ (r : Record). r .origin) (told .records))
+run (originTold source row bytes) =
+    let settings : Settings = record { shortest = off 1; threshold = whole 50; forbidden = []; source = source } in
+    let call = whyCall (record { matrix = column hump; settings = settings; row = row; sums = room; records = room; text = bytes }) in
+    told (call .answer) (call .text)
 
 -- a case and what is to be seen
 record Marked : Type 0 where
@@ -130,7 +150,7 @@ halves : List ℕ
 halves = 0 ∷ 0 ∷ 0 ∷ 0 ∷ 8 ∷ 8 ∷ 8 ∷ 8 ∷ []
 
 marked : List Marked
-unfolding from wild M7 halves
+unfolding from wild layered hump M7 halves
 marked =
     -- M1 [0,10), m=3: 3 to 6
     record { case = allowedRows (off 3) 0 10 []; seen = rows (given 4) (3 ∷ 4 ∷ 5 ∷ 6 ∷ []) }
@@ -149,7 +169,7 @@ marked =
     -- M7 the program's case
     ∷ record {
       case = sheetOf M7;
-      seen = text (bytes "cuts\t1\ncut\t4\t4060000000000000\t0\t8\nnodes\t3\n");
+      seen = text (bytes "cuts\t1\ncut\t4\t4060000000000000\t0\t8\tdirect\nnodes\t3\n");
     }
     -- M8 five zero rows, m=1, threshold -1: cuts 1,2,3, 7 nodes
     ∷ record { case = cutsOf (replicate 5 0) (off 1) (fin true 1 (pos 0)) nothing; seen = tree (given (record { nodes = 7; records = 3; cuts = 3; stored = 0 })) (1 ∷ 2 ∷ 3 ∷ []) }
@@ -218,7 +238,7 @@ marked =
       seen = tree (given (record { nodes = 1; records = 1; cuts = 0; stored = 0 })) [];
     }
     -- why, of rows 0,0,0,0,8,8,8,8, m=1, threshold 10, which is cut at 4: row 4 is the cut of the whole run, though it is the first row of [4,8) too
-    ∷ record { case = whyOfRow halves (off 1) (whole 10) [] nothing 4; seen = why (given (cut (from 0 8))) }
+    ∷ record { case = whyOfRow halves (off 1) (whole 10) [] nothing 4; seen = why (given (cut (from 0 8) direct)) }
     -- the others by the uncut segment that holds them: at its ends too near, else with their gain there, which is 0
     ∷ record { case = whyOfRow halves (off 1) (whole 10) [] nothing 0; seen = why (given (tooNear (from 0 4))) }
     ∷ record { case = whyOfRow halves (off 1) (whole 10) [] nothing 3; seen = why (given (tooNear (from 0 4))) }
@@ -233,17 +253,32 @@ marked =
     -- no number: 2^1023 three times
     ∷ record { case = whyOfRow (replicate 3 (2 ^ 1023)) (off 1) (whole 10) [] nothing 1; seen = why (given (noNumber (from 0 3))) }
     -- a cut by a draw's record, that of [0,6), is told of the reached segment
-    ∷ record { case = whyOfRow (0 ∷ 0 ∷ 0 ∷ 0 ∷ 8 ∷ 8 ∷ 0 ∷ 0 ∷ []) (off 1) (whole 50) [] (wild (0 ∷ 6 ∷ []) 1) 4; seen = why (given (cut (from 0 8))) }
+    ∷ record { case = whyOfRow (0 ∷ 0 ∷ 0 ∷ 0 ∷ 8 ∷ 8 ∷ 0 ∷ 0 ∷ []) (off 1) (whole 50) [] (wild (0 ∷ 6 ∷ []) 1) 4; seen = why (given (cut (from 0 8) (draw 0))) }
     -- 8: a row at n. 3 comes before
     ∷ record { case = whyOfRow halves (off 1) (whole 10) [] nothing 8; seen = why (refused 8) }
     ∷ record { case = whyOfRow halves (off 1) nan [] nothing 8; seen = why (refused 3) }
     -- as the program writes it
-    ∷ record { case = lineOf 4 M7; seen = text (bytes "cut\t4\t0\t8\n") }
+    ∷ record { case = lineOf 4 M7; seen = text (bytes "cut\t4\t0\t8\tdirect\n") }
     ∷ record { case = lineOf 2 M7; seen = text (bytes "below\t2\t0000000000000000\t0\t4\n") }
     ∷ record { case = lineOf 8 M7; seen = text (bytes "refused\t8\n") }
+    -- origins: a draw's is its place among all pairs, [4,4), [6,2) and [3,5) too, which leave no record
+    ∷ record { case = originsBy (replicate 10 0) (wild (4 ∷ 4 ∷ 6 ∷ 2 ∷ 3 ∷ 5 ∷ 2 ∷ 9 ∷ 0 ∷ 4 ∷ 0 ∷ 10 ∷ []) 2); seen = origins (draw 3 ∷ draw 4 ∷ []) }
+    -- a layer's is its number, from 1: three segments each
+    ∷ record { case = originsBy (replicate 8 0) layered; seen = origins (layer 1 ∷ layer 1 ∷ layer 1 ∷ layer 2 ∷ layer 2 ∷ layer 2 ∷ []) }
+    -- a cut by the second layer's [0,6), as 85.33 is more than the first layer's 64; by a draw behind one that is passed over; by the segment itself
+    ∷ record { case = originTold layered 4 25; seen = told (given (cut (from 0 8) (layer 2))) (bytes "layer 2") }
+    ∷ record { case = originTold (wild (6 ∷ 6 ∷ 0 ∷ 6 ∷ []) 1) 4 25; seen = told (given (cut (from 0 8) (draw 1))) (bytes "draw 1") }
+    ∷ record { case = originTold (wild (6 ∷ 6 ∷ 0 ∷ 6 ∷ []) 1) 6 25; seen = told (given (cut (from 4 8) direct)) (bytes "direct") }
+    -- of two draws of one segment the first is told; of a draw and the segment itself, with equal gains, the segment
+    ∷ record { case = originTold (wild (0 ∷ 6 ∷ 0 ∷ 6 ∷ []) 2) 4 25; seen = told (given (cut (from 0 8) (draw 0))) (bytes "draw 0") }
+    ∷ record { case = originTold (wild (0 ∷ 6 ∷ 4 ∷ 8 ∷ []) 2) 6 25; seen = told (given (cut (from 4 8) direct)) (bytes "direct") }
+    -- a row that is no cut has no text; 24 bytes are refused for either
+    ∷ record { case = originTold (wild (0 ∷ 6 ∷ []) 1) 5 25; seen = told (given (tooNear (from 4 6))) [] }
+    ∷ record { case = originTold (wild (0 ∷ 6 ∷ []) 1) 4 24; seen = told (refused 7) [] }
+    ∷ record { case = originTold (wild (0 ∷ 6 ∷ []) 1) 5 24; seen = told (refused 7) [] }
     ∷ []
 
--- M1 to M11, the three rows for the slips, six for the closed end, thirteen for draws and sixteen for why
+-- M1 to M11, the three rows for the slips, six for the closed end, thirteen for draws, sixteen for why and ten for origins
 marked-right : map (λ (c : Marked). run (c .case)) marked ≡ map (λ (c : Marked). c .seen) marked
-unfolding run marked oneMore add sub mul div ofInt ofBits toBits lt le isNan upward select every outside wrongMatrix isBetween wellPaired wrongLayers wrongSegment wrongSplit allBarred wrongPermutations wrongLengths wrongDeck wrongPairs nearestOf truncation ceiling minimalLength wholeRoot isBarred rangeSize candidates flatSums prefixSums term terms innerGain gainOf better best trials search layerLength layerCount layerStep layerStart layerStop layerSegments seeded layersTotal stored pairsOf drawn isOdd bothGiven anyPast storedRecords inside choice verdict grow grown recordsOf nodeCount nodes cuts sheet difference squares distances insert ordered orderOf others neighbours countOf predictions isPermutation addDeltas added reaches exceeds counter lengthAnswer candidatesRefusal candidatesCall gainRefusal gainCall searchRefusal searchCall storedRefusal storedCall treeRefusal treeCall predictRefusal predictCall guesses guessesAnswer permutationAnswer placeOf isNear firstBarring whyOf whyRefusal whyCall askedRefusal whyProgram bytes same parts valueOf number cell cellsOf hexValueOf threshold decimalOf hexOf line readLine readLines readInput deckRefusal cutLines sheetText program flatten
+unfolding run marked originText oneMore add sub mul div ofInt ofBits toBits lt le isNan upward select every outside wrongMatrix isBetween wellPaired wrongLayers wrongSegment wrongSplit allBarred wrongPermutations wrongLengths wrongDeck wrongPairs nearestOf truncation ceiling minimalLength wholeRoot isBarred rangeSize candidates flatSums prefixSums term terms innerGain gainOf better best trials search layerLength layerCount layerStep layerStart layerStop layerSegments seededFrom layersTotal stored pairsOf numbered drawn isOdd bothGiven anyPast storedRecords inside choice verdict grow grown recordsOf nodeCount nodes cuts sheet difference squares distances insert ordered orderOf others neighbours countOf predictions isPermutation addDeltas added reaches exceeds counter lengthAnswer candidatesRefusal candidatesCall gainRefusal gainCall searchRefusal searchCall storedRefusal storedCall treeRefusal treeCall predictRefusal predictCall guesses guessesAnswer permutationAnswer placeOf isNear firstBarring whyOf whyRefusal whyCall askedRefusal whyProgram bytes same parts valueOf number cell cellsOf hexValueOf threshold decimalOf hexOf line readLine readLines readInput deckRefusal cutLines sheetText program flatten
 marked-right = refl

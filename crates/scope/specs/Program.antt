@@ -11,6 +11,7 @@ use lib.ListN.{length}
 use Rattle.scope.specs.Lists.{every}
 use Rattle.scope.specs.Asked.{Matrix, off, nothing, Settings}
 use Rattle.scope.specs.Refusals.{Test, test, firstOf, outside, mostColumns, wellPaired, no2, no3}
+use Rattle.scope.specs.Origin.{originText}
 use Rattle.scope.specs.Grid.{Record}
 use Rattle.scope.specs.Tree.{Run, Tree, treeOf, cuts, nodeCount}
 use Rattle.scope.specs.Calls.{runOf}
@@ -165,9 +166,9 @@ deckRefusal deck = firstOf (deckTests deck)
 
 -- ---- what is written
 
--- "A `cut` line gives the row, the gain's bits and the chosen record's ends."
+-- "A `cut` line gives the row, the gain's bits and the chosen record's ends"; its origin "as a sixth field, always `direct` there"
 abbrev pub cutLine : Record → List ℕ
-cutLine r = line (bytes "cut" ∷ decimal (r .split) ∷ hexOf 16 (toBits binary64 (r .gain)) ∷ decimal (r .start) ∷ decimal (r .stop) ∷ [])
+cutLine r = line (bytes "cut" ∷ decimal (r .split) ∷ hexOf 16 (toBits binary64 (r .gain)) ∷ decimal (r .start) ∷ decimal (r .stop) ∷ originText (r .origin) ∷ [])
 
 unfoldable pub cutLines : List Record → List ℕ
 cutLines [] = []

@@ -8,7 +8,7 @@ use lib.Ieee.{Float, lt}
 use Rattle.scope.specs.Lists.{keep}
 use Rattle.scope.specs.Asked.{Shortest, endOf}
 use Rattle.scope.specs.Grid.{Record, best, search}
-use Rattle.scope.specs.Layers.{Segment, one, stored}
+use Rattle.scope.specs.Layers.{StoredSegment, one, stored}
 
 -- a run: its rows, the settings, the stored segments, which were searched beforehand, whatever made them, and the gain of a split x of [start, stop)
 pub record Run : Type 0 where
@@ -16,7 +16,7 @@ pub record Run : Type 0 where
   pub shortest : Shortest
   pub threshold : Float
   pub forbidden : List ℕ
-  pub segments : List Segment
+  pub segments : List StoredSegment
   pub gain : ℕ → ℕ → ℕ → Float
 
 -- a segment's own search

@@ -6,6 +6,7 @@ use lib.Dec.{ltb, leb, eqb}
 use lib.Ieee.{Float, isNan}
 use Rattle.scope.specs.Asked.{Matrix, Shortest, endOf, Settings}
 use Rattle.scope.specs.Refusals.{Test, test, firstOf, Answer, unless, toldUnless, no7}
+use Rattle.scope.specs.Origin.{Origin, originText, originRoom}
 use Rattle.scope.specs.Grid.{Record}
 use Rattle.scope.specs.Layers.{Segment}
 use Rattle.scope.specs.Draws.{mostStored, no8-draws}
@@ -14,14 +15,14 @@ use Rattle.scope.specs.Calls.{sumsOf, sumsRoom, runTests, runOf}
 
 -- ---- "it is a cut, and of which reached segment; or, within the uncut segment that holds it": where a row stands
 pub data Place : Type 0 where
-  atCut : Segment → Place
+  atCut : Segment → Origin → Place
   uncutIn : Segment → Place
 
--- from a segment down: it is cut at the row; or a row below the cut stands in the left part, and one above it in the right part
+-- from a segment down: it is cut at the row, by a record of some origin; or a row below the cut stands in the left part, and one above it in the right part
 unfoldable pub placeOf : ℕ → Tree → Place
 placeOf x (leaf start stop o) = uncutIn (record { start = start; stop = stop })
 placeOf x (node start stop c l r) =
-    cond (eqb x (c .split)) (atCut (record { start = start; stop = stop })) (cond (ltb x (c .split)) (placeOf x l) (placeOf x r))
+    cond (eqb x (c .split)) (atCut (record { start = start; stop = stop }) (c .origin)) (cond (ltb x (c .split)) (placeOf x l) (placeOf x r))
 
 -- ---- "too near an end": x < start+m, or not x+m < stop; with the closed end "too near at the right means beyond stop-m"
 unfoldable pub isNear : Shortest → Segment → ℕ → Bool
@@ -37,9 +38,9 @@ firstBarring [] x = free
 firstBarring (a ∷ []) x = free
 firstBarring (a ∷ b ∷ ps) x = cond (ltb a x && leb x b) (by a b) (firstBarring ps x)
 
--- ---- what is told, each with the segment that it is told of
+-- ---- what is told, each with the segment that it is told of; of a cut the chosen record's origin
 pub data Why : Type 0 where
-  cut : Segment → Why
+  cut : Segment → Origin → Why
   tooNear : Segment → Why
   barred : ℕ → ℕ → Segment → Why
   noNumber : Segment → Why
@@ -60,7 +61,7 @@ abbrev pub reasonIn : Run → ℕ → Segment → Why
 reasonIn q x g = firstReason (isNear (q .shortest) g x) (firstBarring (q .forbidden) x) (q .gain (g .start) (g .stop) x) g
 
 abbrev pub byPlace : Run → ℕ → Place → Why
-byPlace q x (atCut g) = cut g
+byPlace q x (atCut g o) = cut g o
 byPlace q x (uncutIn g) = reasonIn q x g
 
 unfoldable pub whyOf : Run → ℕ → Why
@@ -70,19 +71,29 @@ whyOf q x = byPlace q x (placeOf x (treeOf q))
 abbrev pub no8-row : ℕ → ℕ → Test
 no8-row n x = test (leb n x) 8
 
--- ---- why: "takes readings, settings and a row, trusting no sheet". No tree is kept: the room is that of the sums and the stored records, T
+-- ---- the origin's text: only a cut has one
+abbrev pub textOf : Why → List ℕ
+textOf (cut g o) = originText o
+textOf (tooNear g) = []
+textOf (barred a b g) = []
+textOf (noNumber g) = []
+textOf (notAbove gain g) = []
+
+-- ---- why: "takes readings, settings and a row, trusting no sheet". No tree is kept: the room is that of the sums, the stored records, T, and the text
 pub record WhyAsked : Type 0 where
   pub matrix : Matrix
   pub settings : Settings
   pub row : ℕ
   pub sums : ℕ
   pub records : ℕ
+  pub text : ℕ
 
 abbrev pub whyTests : WhyAsked → List Test
 whyTests a =
     runTests (a .matrix) (a .settings)
     ++ (no7 (sumsRoom (a .matrix)) (a .sums)
     ∷ no7 (mostStored (a .settings .source)) (a .records)
+    ∷ no7 originRoom (a .text)
     ∷ no8-draws (a .matrix .n) (a .settings .source)
     ∷ no8-row (a .matrix .n) (a .row)
     ∷ [])
@@ -94,9 +105,15 @@ pub record WhyTold : Type 0 where
   pub answer : Answer Why
   pub sums : List Float
   pub records : List Record
+  pub text : List ℕ
 
 unfoldable pub whyCall : WhyAsked → WhyTold
 whyCall a =
     let no = whyRefusal a in
     let q = runOf (a .matrix) (a .settings) in
-    record { answer = unless no (whyOf q (a .row)); sums = toldUnless no (sumsOf (a .matrix)); records = toldUnless no (storedRecords q) }
+    record {
+      answer = unless no (whyOf q (a .row));
+      sums = toldUnless no (sumsOf (a .matrix));
+      records = toldUnless no (storedRecords q);
+      text = toldUnless no (textOf (whyOf q (a .row)));
+    }

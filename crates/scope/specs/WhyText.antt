@@ -4,6 +4,7 @@ use mathlib.Core.Option.{Option, none}
 use Prim.Native.Nat.{ℕ}
 use lib.Ieee.{binary64, toBits}
 use Rattle.scope.specs.Refusals.{Test, firstOf}
+use Rattle.scope.specs.Origin.{originText}
 use Rattle.scope.specs.Layers.{Segment}
 use Rattle.scope.specs.Text.{bytes, number, decimal, hexOf, line}
 use Rattle.scope.specs.Program.{Deck, deckTests, deckRun, orRefused, readingText, readInput}
@@ -15,13 +16,13 @@ rowAsked [] = none
 rowAsked (a ∷ []) = number a
 rowAsked (a ∷ b ∷ more) = none
 
--- the segment's ends, the line's last fields
+-- the segment's ends
 abbrev pub ends : Segment → List (List ℕ)
 ends g = decimal (g .start) ∷ decimal (g .stop) ∷ []
 
--- the reason's word, the row, what goes with the reason, and the segment's ends
+-- the reason's word, the row, what goes with the reason, and the segment's ends; for a cut then its origin
 abbrev pub whyLine : ℕ → Why → List ℕ
-whyLine x (cut g) = line (bytes "cut" ∷ decimal x ∷ ends g)
+whyLine x (cut g o) = line (bytes "cut" ∷ decimal x ∷ ends g ++ (originText o ∷ []))
 whyLine x (tooNear g) = line (bytes "near" ∷ decimal x ∷ ends g)
 whyLine x (barred a b g) = line (bytes "barred" ∷ decimal x ∷ decimal a ∷ decimal b ∷ ends g)
 whyLine x (noNumber g) = line (bytes "nan" ∷ decimal x ∷ ends g)

@@ -2,38 +2,43 @@
 // After segmentation.rs, "SBS" and "WBS"; neither layers nor draws means "BS".
 use control::Shortest;
 use layers::Layer;
+use optimizer::optimizer_result::Origin;
 use optimizer::optimizer_result::Searched;
 use rows::Segment;
 use stored::records;
 ghost use mathlib.Core.Path.{_≡_};
 ghost use mathlib.Core.Bool.{false};
+ghost use mathlib.Core.List.{map};
 ghost use Prim.Native.Nat.{_+_, _*_, _<_, _≤_};
 ghost use lib.ListN.{length};
 ghost use Rattle.scope.specs.Refusals.{wrongLayers};
-ghost use Rattle.scope.specs.Layers.{one, seeded, layerSegments, layersTotal};
+ghost use Rattle.scope.specs.Origin.{layer as ofLayer, draw as ofDraw};
+ghost use Rattle.scope.specs.Layers.{ofOrigin, one, labelled, seeded, layerSegments, layersTotal};
 ghost use Rattle.scope.specs.Draws.{drawn, storedSegments, mostStored};
 ghost use Rattle.scope.specs.Calls.{storedRefusal};
 ghost use Rattle.control.specs.Settings.{shortestOf};
+ghost use Rattle.optimizer.specs.Records.{toOrigin};
 ghost use Rattle.stored.specs.Flat.{Put};
 ghost use Rattle.rows.specs.Segments.{toSegment};
 ghost use Rattle.layers.specs.Layer.{Made};
 ghost use Rattle.segmentation.specs.Segments.{searchOver, storedOver, drawRecord, Within, storedAsked, StoresSegments};
 
-// Searches a segment and stores its record at the place `at`; a segment that the search refuses leaves none. Tells the next place.
+// Searches a segment and stores its record, with its origin, at the place `at`; a segment that the search refuses leaves none. Tells the next place.
 fn store_segment(
     sums: &[f64],
     d: usize,
     shortest: Shortest,
     forbidden: &[usize],
     segment: Segment,
+    origin: Origin,
     rows: &mut [usize],
     gains: &mut [f64],
     at: usize,
 ) -> usize
     requires { ⌜ (segment .start .0 ≤ segment .stop .0) × (segment .stop .0 ≤ 4096) × (shortest .m ≤ 4096) ⌝ }
     requires { ⌜ (segment .stop .0 + 1) * d ≤ length (now sums) ⌝ }
-    requires { ⌜ (3 * at + 3 ≤ length (now rows)) × (at < length (now gains)) ⌝ }
-    ensures { λ r. ⌜ Put (one (searchOver (now (sums .entry)) d (shortestOf shortest) (now (forbidden .entry)) (segment .start .0) (segment .stop .0))) at (now (rows .entry)) (now (gains .entry)) (now (rows .exit)) (now (gains .exit)) r ⌝ }
+    requires { ⌜ (5 * at + 5 ≤ length (now rows)) × (at < length (now gains)) ⌝ }
+    ensures { λ r. ⌜ Put (one (labelled (toOrigin origin) (searchOver (now (sums .entry)) d (shortestOf shortest) (now (forbidden .entry)) (segment .start .0) (segment .stop .0)))) at (now (rows .entry)) (now (gains .entry)) (now (rows .exit)) (now (gains .exit)) r ⌝ }
 {
     let start = segment.start;
     let stop = segment.stop;
@@ -47,24 +52,25 @@ fn store_segment(
     ) else {
         return at;
     };
-    records::put_record(rows, gains, at, found);
+    records::put_record(rows, gains, at, found.with_origin(origin));
     at + 1
 }
 
-// The records of a layer's segments, stored from the place `at` on. Tells the next place.
+// The records of a layer's segments, with its number, stored from the place `at` on. Tells the next place.
 fn store_layer(
     sums: &[f64],
     d: usize,
     shortest: Shortest,
     forbidden: &[usize],
     layer: Layer,
+    number: usize,
     rows: &mut [usize],
     gains: &mut [f64],
     at: usize,
 ) -> usize
     requires { ⌜ Made layer × (shortest .m ≤ 4096) × ((layer .n + 1) * d ≤ length (now sums)) ⌝ }
-    requires { ⌜ (3 * (at + layer .count) ≤ length (now rows)) × (at + layer .count ≤ length (now gains)) ⌝ }
-    ensures { λ r. ⌜ Put (storedOver (now (sums .entry)) d (shortestOf shortest) (now (forbidden .entry)) (layerSegments (layer .n) (layer .value) (layer .count))) at (now (rows .entry)) (now (gains .entry)) (now (rows .exit)) (now (gains .exit)) r ⌝ }
+    requires { ⌜ (5 * (at + layer .count) ≤ length (now rows)) × (at + layer .count ≤ length (now gains)) ⌝ }
+    ensures { λ r. ⌜ Put (storedOver (now (sums .entry)) d (shortestOf shortest) (now (forbidden .entry)) (map (ofOrigin (ofLayer number)) (layerSegments (layer .n) (layer .value) (layer .count)))) at (now (rows .entry)) (now (gains .entry)) (now (rows .exit)) (now (gains .exit)) r ⌝ }
 {
     let count = layer.count;
     let mut next = at;
@@ -76,6 +82,7 @@ fn store_layer(
             shortest,
             forbidden,
             layer.segment(id),
+            Origin::Layer(number),
             rows,
             gains,
             next,
@@ -85,7 +92,7 @@ fn store_layer(
     next
 }
 
-// The records of all layers' segments, in order, stored from the start. Tells how many.
+// The records of all layers' segments, in order, stored from the start; the layers are numbered from 1. Tells how many.
 fn store_layers(
     sums: &[f64],
     n: usize,
@@ -98,41 +105,53 @@ fn store_layers(
 ) -> usize
     requires { ⌜ (n ≤ 4096) × (shortest .m ≤ 4096) × ((n + 1) * d ≤ length (now sums)) ⌝ }
     requires { ⌜ wrongLayers (now layers) ≡ false ⌝ }
-    requires { ⌜ (3 * layersTotal (now layers) ≤ length (now rows)) × (layersTotal (now layers) ≤ length (now gains)) ⌝ }
+    requires { ⌜ (5 * layersTotal (now layers) ≤ length (now rows)) × (layersTotal (now layers) ≤ length (now gains)) ⌝ }
     ensures { λ r. ⌜ Put (storedOver (now (sums .entry)) d (shortestOf shortest) (now (forbidden .entry)) (seeded n (now (layers .entry)))) 0 (now (rows .entry)) (now (gains .entry)) (now (rows .exit)) (now (gains .exit)) r ⌝ }
 {
     let mut count = 0;
     let mut i = 0;
     while i < layers.len() {
         let layer = Layer::new(n, layers[i]);
-        count = store_layer(sums, d, shortest, forbidden, layer, rows, gains, count);
         i += 1;
+        count = store_layer(sums, d, shortest, forbidden, layer, i, rows, gains, count);
     }
     count
 }
 
-// The record of a draw, stored at the place `at`; one that is passed over leaves none. Tells the next place.
+// The record of a draw, with its number, stored at the place `at`; one that is passed over leaves none. Tells the next place.
 fn store_draw(
     sums: &[f64],
     d: usize,
     shortest: Shortest,
     forbidden: &[usize],
     draw: Segment,
+    number: usize,
     rows: &mut [usize],
     gains: &mut [f64],
     at: usize,
 ) -> usize
     requires { ⌜ (draw .stop .0 ≤ 4096) × (shortest .m ≤ 4096) × ((draw .stop .0 + 1) * d ≤ length (now sums)) ⌝ }
-    requires { ⌜ (3 * at + 3 ≤ length (now rows)) × (at < length (now gains)) ⌝ }
-    ensures { λ r. ⌜ Put (one (drawRecord (searchOver (now (sums .entry)) d (shortestOf shortest) (now (forbidden .entry))) (toSegment draw))) at (now (rows .entry)) (now (gains .entry)) (now (rows .exit)) (now (gains .exit)) r ⌝ }
+    requires { ⌜ (5 * at + 5 ≤ length (now rows)) × (at < length (now gains)) ⌝ }
+    ensures { λ r. ⌜ Put (one (labelled (ofDraw number) (drawRecord (searchOver (now (sums .entry)) d (shortestOf shortest) (now (forbidden .entry))) (toSegment draw)))) at (now (rows .entry)) (now (gains .entry)) (now (rows .exit)) (now (gains .exit)) r ⌝ }
 {
     if !draws::is_searched(draw) {
         return at;
     }
-    store_segment(sums, d, shortest, forbidden, draw, rows, gains, at)
+    store_segment(
+        sums,
+        d,
+        shortest,
+        forbidden,
+        draw,
+        Origin::Draw(number),
+        rows,
+        gains,
+        at,
+    )
 }
 
-// The records of the draws, in order, stored from the start until w stand or the list ends. Tells how many.
+// The records of the draws, in order, stored from the start until w stand or the list ends; the pairs of the list are numbered from 0, those passed over too.
+// Tells how many.
 fn store_draws(
     sums: &[f64],
     d: usize,
@@ -144,7 +163,7 @@ fn store_draws(
     gains: &mut [f64],
 ) -> usize
     requires { ⌜ (shortest .m ≤ 4096) × Within (now draws) d (length (now sums)) ⌝ }
-    requires { ⌜ (3 * w ≤ length (now rows)) × (w ≤ length (now gains)) ⌝ }
+    requires { ⌜ (5 * w ≤ length (now rows)) × (w ≤ length (now gains)) ⌝ }
     ensures { λ r. ⌜ Put (storedOver (now (sums .entry)) d (shortestOf shortest) (now (forbidden .entry)) (drawn (searchOver (now (sums .entry)) d (shortestOf shortest) (now (forbidden .entry))) (now (draws .entry)) w)) 0 (now (rows .entry)) (now (gains .entry)) (now (rows .exit)) (now (gains .exit)) r ⌝ }
 {
     let mut count = 0;
@@ -154,7 +173,17 @@ fn store_draws(
             return count;
         }
         let draw = draws::draw_at(draws, i);
-        count = store_draw(sums, d, shortest, forbidden, draw, rows, gains, count);
+        count = store_draw(
+            sums,
+            d,
+            shortest,
+            forbidden,
+            draw,
+            i / 2,
+            rows,
+            gains,
+            count,
+        );
         i += 2;
     }
     count
@@ -175,7 +204,7 @@ fn store_records(
 ) -> usize
     requires { ⌜ (n ≤ 4096) × (shortest .m ≤ 4096) × ((n + 1) * d ≤ length (now sums)) ⌝ }
     requires { ⌜ (wrongLayers (now layers) ≡ false) × Within (now draws) d (length (now sums)) ⌝ }
-    requires { ⌜ (3 * mostStored (record { layers = now layers; draws = now draws; W = w }) ≤ length (now rows)) × (mostStored (record { layers = now layers; draws = now draws; W = w }) ≤ length (now gains)) ⌝ }
+    requires { ⌜ (5 * mostStored (record { layers = now layers; draws = now draws; W = w }) ≤ length (now rows)) × (mostStored (record { layers = now layers; draws = now draws; W = w }) ≤ length (now gains)) ⌝ }
     ensures { λ r. ⌜ Put (storedOver (now (sums .entry)) d (shortestOf shortest) (now (forbidden .entry)) (storedSegments (searchOver (now (sums .entry)) d (shortestOf shortest) (now (forbidden .entry))) n (record { layers = now (layers .entry); draws = now (draws .entry); W = w }))) 0 (now (rows .entry)) (now (gains .entry)) (now (rows .exit)) (now (gains .exit)) r ⌝ }
 {
     if draws.len() == 0 {
@@ -184,7 +213,7 @@ fn store_records(
     store_draws(sums, d, shortest, forbidden, draws, w, rows, gains)
 }
 
-// The number that applies to a call for the stored segments' records, or 0: each takes three row numbers and one gain.
+// The number that applies to a call for the stored segments' records, or 0: each takes five whole numbers and one gain.
 pub fn stored_refusal(
     cells: &[f64],
     n: usize,

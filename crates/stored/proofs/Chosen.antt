@@ -14,7 +14,7 @@ use Rattle.stored.specs.Flat.{recordAt, recordsIn, liesInside}
 
 -- of the first count records, those from k on
 pub left : List ℕ → List Float → ℕ → ℕ → List Record
-left rows gains count k = recordsIn (drop (3 * k) rows) (drop k gains) (count - k)
+left rows gains count k = recordsIn (drop (5 * k) rows) (drop k gains) (count - k)
 
 -- b is the choice before the record at k: b and the records from k on give the choice among all
 pub record SoFar (rows : List ℕ) (gains : List Float) (count start stop : ℕ) (direct : Record) (k : ℕ) (b : Record) : Type 0 where
@@ -33,8 +33,8 @@ module _ (rows : List ℕ) (gains : List Float) (count : ℕ) where
   unfolding left recordsIn
   left-next k h =
       let e : count - k ≡ suc (count - (k + 1)) = omega arith in
-      let f : 3 * (k + 1) ≡ 3 * k + 3 = omega arith in
-      rw (e, f, drop-drop 3 (3 * k) rows, drop-drop 1 k gains, getD-drop (3 * k) rows 0, getD-drop (3 * k) rows 1, getD-drop (3 * k) rows 2, getD-drop k gains 0, add-zero (3 * k), add-zero k)
+      let f : 5 * (k + 1) ≡ 5 * k + 5 = omega arith in
+      rw (e, f, drop-drop 5 (5 * k) rows, drop-drop 1 k gains, getD-drop (5 * k) rows 0, getD-drop (5 * k) rows 1, getD-drop (5 * k) rows 2, getD-drop (5 * k) rows 3, getD-drop (5 * k) rows 4, getD-drop k gains 0, add-zero (5 * k), add-zero k)
 
 module _ {rows : List ℕ} {gains : List Float} {count start stop : ℕ} {direct : Record} where
   pub begins : SoFar rows gains count start stop direct 0 direct

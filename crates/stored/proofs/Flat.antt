@@ -9,7 +9,9 @@ use lib.ListN.{length, set, length-append}
 use lib.Seq.{sets, sets-eq, length-sets}
 use Rattle.rows.proofs.Stored.{sets-append}
 use Rattle.scope.specs.Lists.{holding}
+use Rattle.scope.specs.Origin.{originOf}
 use Rattle.scope.specs.Grid.{Record}
+use Rattle.optimizer.proofs.Origins.{numbers-back}
 use Rattle.stored.specs.Flat.{flatRows, gainsOf, recordsIn, Put}
 
 -- ---- runs of stores
@@ -24,7 +26,7 @@ module _ {A : Type 0} where
   sets-suc x l p (v ∷ vs) = sets-suc x (set l p v) (suc p) vs
 
 -- ---- records, flat
-pub length-rows : (rs : List Record) → length (flatRows rs) ≡ 3 * length rs
+pub length-rows : (rs : List Record) → length (flatRows rs) ≡ 5 * length rs
 length-rows [] = refl
 length-rows (r ∷ rs) = omega (arith, length-rows rs)
 
@@ -44,11 +46,11 @@ gains-append (r ∷ rs) more = rw (gains-append rs more)
 pub records-told : (rs : List Record) (t : List ℕ) (u : List Float) → recordsIn (flatRows rs ++ t) (gainsOf rs ++ u) (length rs) ≡ rs
 unfolding recordsIn
 records-told [] t u = refl
-records-told (r ∷ rs) t u = ap (λ (l : List Record). r ∷ l) (records-told rs t u)
+records-told (r ∷ rs) t u = rw (numbers-back (r .origin)) (ap (λ (l : List Record). r ∷ l) (records-told rs t u))
 
 -- records stored behind the first ones are read back behind them
-pub records-put : (at : ℕ) (rows : List ℕ) (gains : List Float) (rs : List Record) → 3 * (at + length rs) ≤ length rows → at + length rs ≤ length gains
-    → recordsIn (sets rows (3 * at) (flatRows rs)) (sets gains at (gainsOf rs)) (at + length rs) ≡ recordsIn rows gains at ++ rs
+pub records-put : (at : ℕ) (rows : List ℕ) (gains : List Float) (rs : List Record) → 5 * (at + length rs) ≤ length rows → at + length rs ≤ length gains
+    → recordsIn (sets rows (5 * at) (flatRows rs)) (sets gains at (gainsOf rs)) (at + length rs) ≡ recordsIn rows gains at ++ rs
 unfolding recordsIn
 records-put zero rows gains rs h k =
     let p : length (flatRows rs) ≤ length rows = omega (arith, length-rows rs) in
@@ -57,11 +59,13 @@ records-put zero rows gains rs h k =
 records-put (suc at) [] gains rs h k = absurd (omega arith)
 records-put (suc at) (a ∷ []) gains rs h k = absurd (omega arith)
 records-put (suc at) (a ∷ b ∷ []) gains rs h k = absurd (omega arith)
-records-put (suc at) (a ∷ b ∷ c ∷ rows) [] rs h k = absurd (omega arith)
-records-put (suc at) (a ∷ b ∷ c ∷ rows) (g ∷ gains) rs h k =
-    let e : 3 * suc at ≡ suc (suc (suc (3 * at))) = omega arith in
-    let r : Record = record { start = a; stop = b; split = c; gain = g } in
-    rw (e, suc-add at (length rs), sets-suc a, sets-suc b, sets-suc c, sets-suc g) (ap (λ (l : List Record). r ∷ l) (records-put at rows gains rs (omega arith) (omega arith)))
+records-put (suc at) (a ∷ b ∷ c ∷ []) gains rs h k = absurd (omega arith)
+records-put (suc at) (a ∷ b ∷ c ∷ d ∷ []) gains rs h k = absurd (omega arith)
+records-put (suc at) (a ∷ b ∷ c ∷ d ∷ n ∷ rows) [] rs h k = absurd (omega arith)
+records-put (suc at) (a ∷ b ∷ c ∷ d ∷ n ∷ rows) (g ∷ gains) rs h k =
+    let e : 5 * suc at ≡ suc (suc (suc (suc (suc (5 * at))))) = omega arith in
+    let r : Record = record { start = a; stop = b; split = c; gain = g; origin = originOf d n } in
+    rw (e, suc-add at (length rs), sets-suc a, sets-suc b, sets-suc c, sets-suc d, sets-suc n, sets-suc g) (ap (λ (l : List Record). r ∷ l) (records-put at rows gains rs (omega arith) (omega arith)))
 
 -- ---- one run after the other
 pub put-none : (at : ℕ) (rows : List ℕ) (gains : List Float) → Put [] at rows gains rows gains at
@@ -70,10 +74,10 @@ put-none at rows gains = record { rows-hold = refl; gains-hold = refl; told = om
 pub put-more : {rs more : List Record} {at b c : ℕ} {rows rows₁ rows₂ : List ℕ} {gains gains₁ gains₂ : List Float}
     → Put rs at rows gains rows₁ gains₁ b → Put more b rows₁ gains₁ rows₂ gains₂ c → Put (rs ++ more) at rows gains rows₂ gains₂ c
 put-more {rs} {more} {at} {b} {c} {rows} {rows₁} {rows₂} {gains} {gains₁} {gains₂} p q =
-    let n : 3 * b ≡ 3 * at + length (flatRows rs) = omega (arith, p .told, length-rows rs) in
+    let n : 5 * b ≡ 5 * at + length (flatRows rs) = omega (arith, p .told, length-rows rs) in
     let m : b ≡ at + length (gainsOf rs) = omega (arith, p .told, length-gains rs) in
     record {
-      rows-hold = rw (rows-append rs more, q .rows-hold, p .rows-hold, n) (sym (sets-append rows (3 * at) (flatRows rs) (flatRows more)));
+      rows-hold = rw (rows-append rs more, q .rows-hold, p .rows-hold, n) (sym (sets-append rows (5 * at) (flatRows rs) (flatRows more)));
       gains-hold = rw (gains-append rs more, q .gains-hold, p .gains-hold, m) (sym (sets-append gains at (gainsOf rs) (gainsOf more)));
       told = omega (arith, p .told, q .told, length-append rs more);
     }
@@ -81,20 +85,20 @@ put-more {rs} {more} {at} {b} {c} {rows} {rows₁} {rows₂} {gains} {gains₁} 
 -- the lengths stay
 pub put-long : {rs : List Record} {at next : ℕ} {rows rows′ : List ℕ} {gains gains′ : List Float} → Put rs at rows gains rows′ gains′ next
     → (length rows′ ≡ length rows) × (length gains′ ≡ length gains)
-put-long {rs} {at} {next} {rows} {rows′} {gains} p = (ap length (p .rows-hold) ∙ length-sets rows (3 * at) (flatRows rs), ap length (p .gains-hold) ∙ length-sets gains at (gainsOf rs))
+put-long {rs} {at} {next} {rows} {rows′} {gains} p = (ap length (p .rows-hold) ∙ length-sets rows (5 * at) (flatRows rs), ap length (p .gains-hold) ∙ length-sets gains at (gainsOf rs))
 
 -- where there is room, the records are read back behind the earlier ones
-pub put-read : {rs : List Record} {at next : ℕ} {rows rows′ : List ℕ} {gains gains′ : List Float} → 3 * next ≤ length rows → next ≤ length gains → Put rs at rows gains rows′ gains′ next
+pub put-read : {rs : List Record} {at next : ℕ} {rows rows′ : List ℕ} {gains gains′ : List Float} → 5 * next ≤ length rows → next ≤ length gains → Put rs at rows gains rows′ gains′ next
     → recordsIn rows′ gains′ next ≡ recordsIn rows gains at ++ rs
 put-read {rs} {at} {next} {rows} {rows′} {gains} h k p = rw (p .rows-hold, p .gains-hold, p .told) (records-put at rows gains rs (omega (arith, p .told)) (omega (arith, p .told)))
 
 -- and those put from the start on are what the slices are told
 module _ {rs : List Record} {rows rows′ : List ℕ} {gains gains′ : List Float} where
-  pub put-told : {next : ℕ} → 3 * next ≤ length rows → next ≤ length gains → Put rs 0 rows gains rows′ gains′ next → (rows′ ≡ holding (flatRows rs) rows) × (gains′ ≡ holding (gainsOf rs) gains)
+  pub put-told : {next : ℕ} → 5 * next ≤ length rows → next ≤ length gains → Put rs 0 rows gains rows′ gains′ next → (rows′ ≡ holding (flatRows rs) rows) × (gains′ ≡ holding (gainsOf rs) gains)
   put-told h k p =
       (p .rows-hold ∙ sets-holding rows (flatRows rs) (omega (arith, length-rows rs, p .told)), p .gains-hold ∙ sets-holding gains (gainsOf rs) (omega (arith, length-gains rs, p .told)))
 
-  pub told-put : 3 * length rs ≤ length rows → length rs ≤ length gains → rows′ ≡ holding (flatRows rs) rows → gains′ ≡ holding (gainsOf rs) gains → Put rs 0 rows gains rows′ gains′ (length rs)
+  pub told-put : 5 * length rs ≤ length rows → length rs ≤ length gains → rows′ ≡ holding (flatRows rs) rows → gains′ ≡ holding (gainsOf rs) gains → Put rs 0 rows gains rows′ gains′ (length rs)
   told-put h k p q = record {
     rows-hold = p ∙ sym (sets-holding rows (flatRows rs) (omega (arith, length-rows rs)));
     gains-hold = q ∙ sym (sets-holding gains (gainsOf rs) (omega (arith, length-gains rs)));

@@ -29,7 +29,7 @@ fn stronger(choice: GainRecord, stored: GainRecord) -> GainRecord
 
 // A segment's choice: its direct record, unless one of the first `count` stored records that lies inside it has strictly greater gain; then the earliest with the greatest.
 pub fn choose(direct: GainRecord, rows: &[usize], gains: &[f64], count: usize) -> GainRecord
-    requires { ⌜ (3 * count ≤ length (now rows)) × (count ≤ length (now gains)) ⌝ }
+    requires { ⌜ (5 * count ≤ length (now rows)) × (count ≤ length (now gains)) ⌝ }
     ensures { λ r. ⌜ toRecord r ≡ best (toRecord direct) (inside (direct .start .0) (direct .stop .0) (recordsIn (now (rows .entry)) (now (gains .entry)) count)) ⌝ }
 {
     let mut choice = direct;

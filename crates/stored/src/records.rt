@@ -1,5 +1,6 @@
-// Gain records in lent memory: three whole numbers (start, stop, best split) and one gain for each, record after record.
+// Gain records in lent memory: five whole numbers (start, stop, best split, and kind and number of the origin) and one gain for each, record after record.
 use optimizer::optimizer_result::GainRecord;
+use optimizer::optimizer_result::Origin;
 use rows::Position;
 ghost use mathlib.Core.Path.{_≡_};
 ghost use mathlib.Core.List.{[], _∷_};
@@ -11,25 +12,30 @@ ghost use Rattle.stored.specs.Flat.{recordAt, flatRows, gainsOf};
 
 // Stores a record at a place.
 pub fn put_record(rows: &mut [usize], gains: &mut [f64], at: usize, found: GainRecord)
-    requires { ⌜ (3 * at + 3 ≤ length (now rows)) × (at < length (now gains)) ⌝ }
-    ensures rows { λ _. ⌜ now (rows .exit) ≡ sets (now (rows .entry)) (3 * at) (flatRows (toRecord found ∷ [])) ⌝ }
+    requires { ⌜ (5 * at + 5 ≤ length (now rows)) × (at < length (now gains)) ⌝ }
+    ensures rows { λ _. ⌜ now (rows .exit) ≡ sets (now (rows .entry)) (5 * at) (flatRows (toRecord found ∷ [])) ⌝ }
     ensures gains { λ _. ⌜ now (gains .exit) ≡ sets (now (gains .entry)) at (gainsOf (toRecord found ∷ [])) ⌝ }
 {
-    rows[3 * at] = found.start.0;
-    rows[3 * at + 1] = found.stop.0;
-    rows[3 * at + 2] = found.best_split.0;
+    let origin = found.origin;
+    rows[5 * at] = found.start.0;
+    rows[5 * at + 1] = found.stop.0;
+    rows[5 * at + 2] = found.best_split.0;
+    rows[5 * at + 3] = origin.kind();
+    rows[5 * at + 4] = origin.number();
     gains[at] = found.max_gain;
 }
 
 // The record at a place.
 pub fn record_at(rows: &[usize], gains: &[f64], at: usize) -> GainRecord
-    requires { ⌜ (3 * at + 3 ≤ length (now rows)) × (at < length (now gains)) ⌝ }
+    requires { ⌜ (5 * at + 5 ≤ length (now rows)) × (at < length (now gains)) ⌝ }
     ensures { λ r. ⌜ toRecord r ≡ recordAt (now (rows .entry)) (now (gains .entry)) at ⌝ }
 {
+    let origin = Origin::of(rows[5 * at + 3], rows[5 * at + 4]);
     GainRecord {
-        start: Position(rows[3 * at]),
-        stop: Position(rows[3 * at + 1]),
-        best_split: Position(rows[3 * at + 2]),
+        start: Position(rows[5 * at]),
+        stop: Position(rows[5 * at + 1]),
+        best_split: Position(rows[5 * at + 2]),
         max_gain: gains[at],
+        origin,
     }
 }

@@ -6,7 +6,7 @@ use Prim.Native.Nat.{ℕ, _+_, _*_, _≤_}
 use lib.Ieee.{Float}
 use Rattle.scope.specs.Gain.{gainOf}
 use Rattle.scope.specs.Grid.{Record}
-use Rattle.scope.specs.Layers.{Segment}
+use Rattle.scope.specs.Layers.{StoredSegment}
 use Rattle.scope.specs.Tree.{Run, direct, uncut, cut, verdict}
 use Rattle.control.specs.Settings.{shortestOf}
 use Rattle.optimizer.specs.Records.{toRecord}
@@ -15,7 +15,7 @@ use Rattle.verdict.specs.declared.Verdict.{Verdict}
 use Rattle.verdict.specs.declared.Verdict.the-variants.{WithoutChoice, Uncut, Cut}
 
 -- a run over prefix sums: n rows, and its stored segments
-abbrev pub runOver : List Float → List ℕ → Asked → ℕ → List Segment → Run
+abbrev pub runOver : List Float → List ℕ → Asked → ℕ → List StoredSegment → Run
 runOver sums forbidden s n segments = record { n = n; shortest = shortestOf (s .settings .shortest); threshold = s .settings .threshold; forbidden = forbidden; segments = segments; gain = gainOf sums (s .d) }
 
 -- what a verdict reads of it: neither n nor the stored segments

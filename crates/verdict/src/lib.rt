@@ -34,7 +34,7 @@ pub fn judge(
     gains: &[f64],
     count: usize,
 ) -> Verdict
-    requires { ⌜ (start .0 ≤ stop .0) × Sized asked (stop .0) (length (now sums)) × (3 * count ≤ length (now rows)) × (count ≤ length (now gains)) ⌝ }
+    requires { ⌜ (start .0 ≤ stop .0) × Sized asked (stop .0) (length (now sums)) × (5 * count ≤ length (now rows)) × (count ≤ length (now gains)) ⌝ }
     ensures { λ r. ⌜ Rules (over (now (sums .entry)) (now (forbidden .entry)) asked) (recordsIn (now (rows .entry)) (now (gains .entry)) count) (start .0) (stop .0) r ⌝ }
 {
     let settings = asked.settings;

@@ -9,6 +9,8 @@ use Rattle.scope.specs.Grid.{Record}
 use Rattle.scope.proofs.Candidates.{nine-from}
 use Rattle.control.specs.Settings.{shortestOf}
 use Rattle.optimizer.specs.Records.{searched, searchedOf}
+use Rattle.optimizer.specs.declared.optimizer_result.Searched.the-variants as handed
+use Rattle.optimizer.proofs.Origins.{from-to}
 use borrow.Author.Needs.{needs}
 use Rattle.grid_search.proofs.search_segment.Statement.{statement}
 use Rattle.grid_search.proofs.search_segment.Tie as tie
@@ -28,7 +30,7 @@ returns-2 c = rw (short (c .before .before .before .before .before .before .befo
 
 returns-3 : tie.Need-returns-3
 unfolding searched
-returns-3 c = rw (short (c .before .before .before .before .before .before .before .before .before) false _ (c .before .before .before .before .too-long-for .ensures) (c .before .before .before .if1 .left), ← c .before .before .all-barred .ensures, c .before .if2 .left) (ap (λ (r : Record). searchedOf (given r)) (c .greatest .ensures))
+returns-3 c = rw (short (c .before .before .before .before .before .before .before .before .before) false _ (c .before .before .before .before .too-long-for .ensures) (c .before .before .before .if1 .left), ← c .before .before .all-barred .ensures, c .before .if2 .left) (ap handed.Record (sym (from-to (c .greatest .result))) ∙ ap (λ (r : Record). searchedOf (given r)) (c .greatest .ensures))
 
 pub search-segment-spec : {M : Type 1} → statement M
 search-segment-spec =

@@ -1,5 +1,5 @@
 -- `explain` meets its contract: the segment is one that holds the row, down to the one that it is told of.
-use mathlib.Core.Path.{_≡_, _∙_}
+use mathlib.Core.Path.{_≡_, sym, _∙_, ap}
 use mathlib.Core.List.{List}
 use Prim.Native.Nat.{_-_}
 use native.Mathlib.Omega.{arith}
@@ -9,9 +9,11 @@ use Rattle.scope.specs.Grid.{Record}
 use Rattle.scope.specs.Tree.{cut, verdict}
 use Rattle.stored.specs.Flat.{recordsIn}
 use Rattle.optimizer.specs.Records.{toRecord}
+use Rattle.optimizer.proofs.Origins.{from-to-origin}
 use Rattle.demand.proofs.Cut.{Far}
 use Rattle.verdict.specs.Rules.{runOver, over, Sized}
 use Rattle.verdict.proofs.Sized.{sized-within}
+use Rattle.reasons.specs.declared.Why.the-variants as why
 use Rattle.reasons.proofs.Walk.{not-cut, Down, down-whole, told-uncut, told-cut, far, down-left, down-right}
 use borrow.Author.Needs.{needs}
 use Rattle.reasons.proofs.explain.Statement.{statement}
@@ -63,7 +65,9 @@ returns c segments stand =
 returns-2 : tie.Need-returns-2 Inv-loop μ-loop
 returns-2 c segments stand =
     let at = c .before .before .before .before .before .before .before .before .loop in
-    told-cut _ _ _ _ _ _ (c .before .before .before .before .before .before .before .before .before .before .before .before .before .pre .2 .least) (at .start .0) (at .stop .0) (at .inv) _ (cut-is (c .before .before .before .before)) (c .if1 .taken) segments stand
+    let choice = c .before .before .before .before .before .choice .given .0 .1 .0 in
+    ap (why.Cut (record { start = at .start; stop = at .stop })) (sym (from-to-origin (choice .origin)))
+    ∙ told-cut _ _ _ _ _ _ (c .before .before .before .before .before .before .before .before .before .before .before .before .before .pre .2 .least) (at .start .0) (at .stop .0) (at .inv) _ (cut-is (c .before .before .before .before)) (c .if1 .taken) segments stand
 
 -- it is cut behind the row, or before
 loop-less : tie.Need-loop-less Inv-loop μ-loop

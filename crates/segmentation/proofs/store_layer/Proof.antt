@@ -1,10 +1,12 @@
 -- `store_layer` meets its contract: after id segments their records stand behind the place, id at most.
 use mathlib.Core.Path.{_≡_}
+use mathlib.Core.List.{map}
 use Prim.Native.Nat.{_+_, _-_, _≤_}
 use native.Mathlib.Nat.{mul-le-mul-right}
 use native.Mathlib.Omega.{arith}
 use denote.Ref.{now}
-use Rattle.scope.specs.Layers.{layerSegments, stored}
+use Rattle.scope.specs.Origin.{layer as ofLayer}
+use Rattle.scope.specs.Layers.{ofOrigin, layerSegments, stored}
 use Rattle.stored.specs.Flat.{Put}
 use Rattle.segmentation.specs.Segments.{searchOver, storedOver}
 use Rattle.stored.proofs.Flat.{put-none, put-more, put-long}
@@ -15,11 +17,11 @@ use Rattle.segmentation.proofs.store_layer.Statement.{statement}
 use Rattle.segmentation.proofs.store_layer.Tie as tie
 
 abbrev Inv-loop : tie.InvT-loop
-Inv-loop sums d shortest forbidden layer rows₀ gains₀ at count next₀ id₀ rows gains next id =
-    (id ≤ count) × Put (storedOver sums d (shortestOf shortest) forbidden (layerSegments (layer .n) (layer .value) id)) at rows₀ gains₀ rows gains next
+Inv-loop sums d shortest forbidden layer number rows₀ gains₀ at count next₀ id₀ rows gains next id =
+    (id ≤ count) × Put (storedOver sums d (shortestOf shortest) forbidden (map (ofOrigin (ofLayer number)) (layerSegments (layer .n) (layer .value) id))) at rows₀ gains₀ rows gains next
 
 abbrev μ-loop : tie.MeasureT-loop
-μ-loop sums d shortest forbidden layer rows₀ gains₀ at count next₀ id₀ rows gains next id = count - id
+μ-loop sums d shortest forbidden layer number rows₀ gains₀ at count next₀ id₀ rows gains next id = count - id
 
 loop-holds : tie.Need-loop-holds Inv-loop μ-loop
 unfolding layerSegments stored
@@ -31,7 +33,7 @@ store-segment-requires c κs =
     let a = s .args in
     let l = c .before .before .before .before .loop in
     let segment = c .before .before .segment .ensures in
-    let few = layer-few (searchOver (now (a .sums)) (a .d) (shortestOf (a .shortest)) (now (a .forbidden))) (a .layer .n) (a .layer .value) (l .id) in
+    let few = layer-few (searchOver (now (a .sums)) (a .d) (shortestOf (a .shortest)) (now (a .forbidden))) (a .layer .n) (a .layer .value) (ofLayer (a .number)) (l .id) in
     let long = put-long (l .inv .1) in
     let told = l .inv .1 .told in
     let within : c .before .before .segment .result .stop .0 + 1 ≤ a .layer .n + 1 = omega arith in
@@ -43,7 +45,7 @@ loop-again c =
     let l = c .before .before .before .before .before .before .before .before .before .loop in
     let segment = c .before .before .before .before .before .before .before .segment .ensures in (
       omega arith,
-      rw (layer-next (searchOver (now (a .sums)) (a .d) (shortestOf (a .shortest)) (now (a .forbidden))) (a .layer .n) (a .layer .value) (l .id), ← segment .0, ← segment .1)
+      rw (layer-next (searchOver (now (a .sums)) (a .d) (shortestOf (a .shortest)) (now (a .forbidden))) (a .layer .n) (a .layer .value) (ofLayer (a .number)) (l .id), ← segment .0, ← segment .1)
           (put-more (l .inv .1) (c .before .before .before .before .store-segment .ensures)),
     )
 

@@ -5,7 +5,7 @@ use native.Mathlib.Omega.{arith}
 use denote.Ref.{now}
 use lib.ListN.{length, take}
 use lib.Seq.{take-all}
-use Rattle.scope.specs.Layers.{layerCount, seeded, stored}
+use Rattle.scope.specs.Layers.{layerCount, seededFrom, seeded, stored}
 use Rattle.stored.specs.Flat.{Put}
 use Rattle.segmentation.specs.Segments.{searchOver, storedOver}
 use Rattle.stored.proofs.Flat.{put-none, put-more, put-long}
@@ -24,7 +24,7 @@ abbrev μ-loop : tie.MeasureT-loop
 μ-loop sums n d shortest forbidden layers rows₀ gains₀ count₀ i₀ rows gains count i = length layers - i
 
 loop-holds : tie.Need-loop-holds Inv-loop μ-loop
-unfolding seeded stored
+unfolding seededFrom stored
 loop-holds c = (omega arith, put-none _ _ _)
 
 new-requires : tie.Need-new-requires Inv-loop μ-loop
@@ -77,8 +77,8 @@ store-layers-spec =
     (λ c. search needs)
     (λ c. search needs)
     new-requires
-    store-layer-requires
     (λ c. search needs)
+    store-layer-requires
     (λ c. search needs)
     loop-again
     same-length

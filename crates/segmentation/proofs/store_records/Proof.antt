@@ -2,7 +2,7 @@
 use mathlib.Core.List.{List}
 use native.Mathlib.Omega.{arith}
 use denote.Ref.{now}
-use Rattle.scope.specs.Layers.{Segment, seeded, layersTotal}
+use Rattle.scope.specs.Layers.{StoredSegment, seeded, layersTotal}
 use Rattle.scope.specs.Draws.{drawn}
 use Rattle.control.specs.Settings.{shortestOf}
 use Rattle.draws.proofs.Given.{by-layers, by-wild}
@@ -12,10 +12,10 @@ use Rattle.segmentation.proofs.store_records.Statement.{statement}
 use Rattle.segmentation.proofs.store_records.Tie as tie
 
 -- what the layers give, and the draws
-abbrev layered : tie.Start → List Segment
+abbrev layered : tie.Start → List StoredSegment
 layered s = seeded (s .args .n) (now (s .args .layers))
 
-abbrev wild : tie.Start → List Segment
+abbrev wild : tie.Start → List StoredSegment
 wild s = drawn (searchOver (now (s .args .sums)) (s .args .d) (shortestOf (s .args .shortest)) (now (s .args .forbidden))) (now (s .args .draws)) (s .args .w)
 
 store-layers-requires : tie.Need-store-layers-requires

@@ -16,15 +16,18 @@ returns c =
     rw (refused-none (gainOf (now (s .sums)) (s .d)) (shortestOf (s .shortest)) (now (s .forbidden)) (s .segment .start .0) (s .segment .stop .0) _ (sym (c .before .before .search-segment .ensures) ∙ c .enum-told .given .1))
     (put-none (s .at) (now (s .rows)) (now (s .gains)))
 
+put-record-requires : tie.Need-put-record-requires
+put-record-requires c κs = c .before .before .before .before .before .before .before .before .before .before .before .before .before .pre .1 .1
+
 add-result : tie.Need-add-result
-add-result c = let s = c .before .before .before .before .before .before .before .before .before .before .before .before .before .before .before .before .before in omega (arith, s .pre, s .fits)
+add-result c = let s = c .before .before .before .before .before .before .before .before .before .before .before .before .before .before .before .before .before .before in omega (arith, s .pre, s .fits)
 
 returns-2 : tie.Need-returns-2
 returns-2 c =
-    let s = c .before .before .before .before .before .before .before .before .before .before .before .before .before .before .before .before .before .args in
+    let s = c .before .before .before .before .before .before .before .before .before .before .before .before .before .before .before .before .before .before .args in
     let put = c .before .before .before .before .put-record .ensures in
-    rw (record-some (gainOf (now (s .sums)) (s .d)) (shortestOf (s .shortest)) (now (s .forbidden)) (s .segment .start .0) (s .segment .stop .0) _ (sym (c .before .before .before .before .before .before .before .before .before .before .search-segment .ensures) ∙ c .before .before .before .before .before .before .before .before .found .given .1))
-    (record { rows-hold = put .0; gains-hold = put .1; told = refl })
+    let found = record-some (gainOf (now (s .sums)) (s .d)) (shortestOf (s .shortest)) (now (s .forbidden)) (s .segment .start .0) (s .segment .stop .0) _ (sym (c .before .before .before .before .before .before .before .before .before .before .before .search-segment .ensures) ∙ c .before .before .before .before .before .before .before .before .before .found .given .1) in
+    rw (found, ← c .before .before .before .before .before .with-origin .ensures) (record { rows-hold = put .0; gains-hold = put .1; told = refl })
 
 pub store-segment-spec : {M : Type 1} → statement M
 store-segment-spec =
@@ -35,6 +38,7 @@ store-segment-spec =
     (λ c. search needs)
     returns
     (λ c κs. search needs)
+    put-record-requires
     add-result
     (λ c. search needs)
     (λ c. search needs)

@@ -16,12 +16,12 @@ returns c =
 returns-2 : tie.Need-returns-2
 returns-2 c =
     let s = c .before .before .before .before .before .before .before .before .before .before .before .before .before .args in
-    judged-cut (over (now (s .sums)) (now (s .forbidden)) (s .asked)) (recordsIn (now (s .rows)) (now (s .gains)) (s .count)) (s .start .0) (s .stop .0) _ (c .before .before .before .before .before .before .search-segment .ensures) _ (c .before .before .before .before .direct .given .1) _ (c .before .before .choose .ensures) (sym (c .before .model-selection .ensures) ∙ c .if1 .taken)
+    judged-cut (over (now (s .sums)) (now (s .forbidden)) (s .asked)) (recordsIn (now (s .rows)) (now (s .gains)) (s .count)) (s .start .0) (s .stop .0) _ (c .before .before .before .before .before .before .search-segment .ensures) _ (c .before .before .before .before .direct .given .1) (c .before .before .choose .result) (c .before .before .choose .ensures) (sym (c .before .model-selection .ensures) ∙ c .if1 .taken)
 
 returns-3 : tie.Need-returns-3
 returns-3 c =
     let s = c .before .before .before .before .before .before .before .before .before .before .before .before .before .args in
-    judged-uncut (over (now (s .sums)) (now (s .forbidden)) (s .asked)) (recordsIn (now (s .rows)) (now (s .gains)) (s .count)) (s .start .0) (s .stop .0) _ (c .before .before .before .before .before .before .search-segment .ensures) _ (c .before .before .before .before .direct .given .1) _ (c .before .before .choose .ensures) (sym (c .before .model-selection .ensures) ∙ c .if1 .left)
+    judged-uncut (over (now (s .sums)) (now (s .forbidden)) (s .asked)) (recordsIn (now (s .rows)) (now (s .gains)) (s .count)) (s .start .0) (s .stop .0) _ (c .before .before .before .before .before .before .search-segment .ensures) _ (c .before .before .before .before .direct .given .1) (c .before .before .choose .result) (c .before .before .choose .ensures) (sym (c .before .model-selection .ensures) ∙ c .if1 .left)
 
 pub judge-spec : {M : Type 1} → statement M
 judge-spec =
