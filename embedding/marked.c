@@ -1,7 +1,7 @@
-/* The marked cases of document 01, some of them with a closed end, some draws, each reason for a row, and each refusal, through the C
-   functions: one line for each call, held to marked.stdout. Arrays that are written are mostly lent longer than their room, some exactly
-   as long, and shorter where 7 is to be given; more stands behind each. `touched` is printed where an entry that was not told, lent or
-   not, is not as it was. */
+/* The marked cases of document 01, some of them with a closed end, some draws, where records come from, each reason for a row, and each
+   refusal, through the C functions: one line for each call, held to marked.stdout. Arrays that are written are mostly lent longer than
+   their room, some exactly as long, and shorter where 7 is to be given; more stands behind each. `touched` is printed where an entry that
+   was not told, lent or not, is not as it was. */
 #include <inttypes.h>
 #include <stdio.h>
 #include <string.h>
@@ -10,7 +10,7 @@
 
 #define LEN(a) (sizeof(a) / sizeof((a)[0]))
 
-enum { ROOM = 64, SPARE = 3 };
+enum { ROOM = 64, SPARE = 3, TEXT = 25 };
 static const size_t none[1];
 static const double layerless[1];
 
@@ -110,7 +110,7 @@ static struct lists drawn(const size_t *draws, size_t draws_len, size_t w)
     return (struct lists){layerless, 0, draws, draws_len, w};
 }
 
-static void segments(const char *name, const double *cells, size_t n, bool closed, struct lists l, size_t room)
+static void segments_in(const char *name, const double *cells, size_t n, bool closed, struct lists l, size_t rows_len, size_t gains_len)
 {
     double sums[ROOM], gains[ROOM];
     size_t rows[ROOM], count = 0;
@@ -118,20 +118,41 @@ static void segments(const char *name, const double *cells, size_t n, bool close
     fill_floats(gains);
     fill_rows(rows);
     uint32_t no = changeforest_stored_segments(cells, n, n, 1, 1, closed, none, 0, l.layers, l.layers_len, l.draws, l.draws_len, l.w, sums,
-                                               n + 1 + SPARE, rows, 3 * room, gains, room, &count);
+                                               n + 1 + SPARE, rows, rows_len, gains, gains_len, &count);
     printf("%s %zu:", name, count);
-    rows_told(rows, 3 * count);
+    rows_told(rows, 5 * count);
     floats_told(gains, count);
     end(no);
 }
 
-/* B = 13 for the longest run here, T = 3 at most unless 6 is to be given. */
+static void segments(const char *name, const double *cells, size_t n, bool closed, struct lists l, size_t room)
+{
+    segments_in(name, cells, n, closed, l, 5 * room, room);
+}
+
+static bool same_record(const struct changeforest_record *a, const struct changeforest_record *b)
+{
+    return a->start == b->start && a->stop == b->stop && a->split == b->split && bits(a->gain) == bits(b->gain) && a->kind == b->kind &&
+           a->number == b->number;
+}
+
+static bool same_node(const struct changeforest_node *a, const struct changeforest_node *b)
+{
+    return a->start == b->start && a->stop == b->stop && a->significant == b->significant && a->has_choice == b->has_choice &&
+           same_record(&a->choice, &b->choice) && a->left == b->left && a->right == b->right;
+}
+
+/* B = 13 for the longest run here, T = 10 at most unless 6 is to be given. Without a choice all of it is zero. */
 static void tree(const char *name, const double *cells, size_t n, bool closed, double threshold, struct lists l, size_t room,
                  size_t counts_len)
 {
     double sums[ROOM], gains[ROOM];
     size_t rows[2 * ROOM], cuts[ROOM], counts[5] = {77, 77, 77, 77, 77};
-    struct changeforest_node nodes[ROOM] = {{0}};
+    static const struct changeforest_node other = {77, 77, true, true, {77, 77, 77, 7.5, 77, 77}, 77, 77};
+    static const struct changeforest_record zero;
+    struct changeforest_node nodes[ROOM];
+    for (size_t i = 0; i < ROOM; i++)
+        nodes[i] = other;
     fill_floats(sums);
     fill_floats(gains);
     fill_rows(rows);
@@ -145,40 +166,61 @@ static void tree(const char *name, const double *cells, size_t n, bool closed, d
         const struct changeforest_node *x = &nodes[i];
         printf(" %zu,%zu,%d:", x->start, x->stop, x->significant);
         if (x->has_choice)
-            printf("%zu,%016" PRIx64 ",%zu,%zu", x->choice.split, bits(x->choice.gain), x->choice.start, x->choice.stop);
+            printf("%zu,%016" PRIx64 ",%zu,%zu,%zu,%zu", x->choice.split, bits(x->choice.gain), x->choice.start, x->choice.stop,
+                   x->choice.kind, x->choice.number);
         else
-            putchar('-');
+            putchar(same_record(&x->choice, &zero) ? '-' : '?');
         printf(":%zu,%zu", x->left, x->right);
     }
     for (size_t i = told; i < ROOM; i++)
-        if (nodes[i].stop != 0)
+        if (!same_node(&nodes[i], &other))
             printf(" touched");
     printf(" cuts");
     rows_told(cuts, no == 0 ? counts[2] : 0);
+    printf(" rows");
+    rows_told(rows, no == 0 ? 5 * counts[1] : 0);
+    rows_told(rows + ROOM, 0);
     printf(" gains");
     floats_told(gains, no == 0 ? counts[1] : 0);
     end(no);
 }
 
 /* Rows 5 and 6 are barred, 6 twice. Of the outputs, those that the reason does not go with stay 77 and 7.5. */
-static void why(const char *name, const double *cells, size_t n, bool closed, double threshold, struct lists l, size_t row, size_t room,
-                size_t stored)
+static void why_in(const char *name, const double *cells, size_t n, bool closed, double threshold, struct lists l, size_t row, size_t room,
+                   size_t stored, size_t text_len)
 {
     static const size_t barred[] = {6, 6, 5, 6, 4, 6};
     double sums[ROOM], gains[ROOM], found = 7.5;
-    size_t rows[ROOM], start = 77, stop = 77, a = 77, b = 77;
+    size_t rows[ROOM], start = 77, stop = 77, kind = 77, number = 77, length = 77, a = 77, b = 77;
     uint32_t reason = 77;
+    char text[ROOM];
     fill_floats(sums);
     fill_floats(gains);
     fill_rows(rows);
+    memset(text, '#', ROOM);
     uint32_t no = changeforest_why(cells, n, n, 1, 1, closed, threshold, barred, LEN(barred), l.layers, l.layers_len, l.draws, l.draws_len,
-                                   l.w, row, sums, n + 1 + SPARE, rows, 3 * room, gains, room, &reason, &start, &stop, &a, &b, &found);
-    printf("%s %" PRIu32 " %zu %zu %zu %zu %016" PRIx64 " sums", name, reason, start, stop, a, b, bits(found));
+                                   l.w, row, sums, n + 1 + SPARE, rows, 5 * room, gains, room, text, text_len, &reason, &start, &stop,
+                                   &kind, &number, &length, &a, &b, &found);
+    printf("%s %" PRIu32 " %zu %zu %zu %zu %zu %zu %zu %016" PRIx64 " text", name, reason, start, stop, kind, number, length, a, b,
+           bits(found));
+    size_t told = no == 0 && reason == CHANGEFOREST_CUT && length <= TEXT ? length : 0;
+    if (told != 0)
+        printf(" %.*s", (int)told, text);
+    for (size_t i = told; i < ROOM; i++)
+        if (text[i] != '#')
+            printf(" touched");
+    printf(" sums");
     floats_told(sums, no == 0 ? n + 1 : 0);
     printf(" records");
-    rows_told(rows, 3 * stored);
+    rows_told(rows, 5 * stored);
     floats_told(gains, stored);
     end(no);
+}
+
+static void why(const char *name, const double *cells, size_t n, bool closed, double threshold, struct lists l, size_t row, size_t room,
+                size_t stored)
+{
+    why_in(name, cells, n, closed, threshold, l, row, room, stored, TEXT + SPARE);
 }
 
 static void predict(const char *name, const double *cells, size_t n, size_t stop, size_t split)
@@ -265,7 +307,9 @@ int main(void)
     static const double last[] = {0, 0, 0, 8}, rising[] = {0, 0, 1, 2};
     static const size_t both[] = {0, 1, 1, 0, 0, 1};
     static const double bump[] = {0, 0, 8, 8, 0, 0, 0, 0};
-    static const size_t draws[] = {4, 4, 0, 2, 0, 4, 2, 6}, past[] = {0, 4, 9, 9};
+    static const size_t draws[] = {4, 4, 0, 2, 0, 4, 2, 6}, past[] = {0, 4, 9, 9}, whole[] = {0, 8};
+    static const double two[] = {0.25, 0.5};
+    static const struct lists second = {two, LEN(two), none, 0, 0};
     static const double high[] = {1e308, 1e308, 1e308}, steep[] = {0, 0, 1e308, 1e308};
 
     candidates("M1", 10, 3, false, none, 0, 10, 4 + SPARE);
@@ -309,6 +353,10 @@ int main(void)
     tree("no sheet", bump, LEN(bump), false, 40, nothing, 13, 4);
     tree("sheet of draws", bump, LEN(bump), false, 40, drawn(draws, LEN(draws), 1), 13, 5);
 
+    segments("second layer", bump, LEN(bump), false, second, 10);
+    tree("sheet of the second layer", bump, LEN(bump), false, 40, second, 13, 4);
+    tree("sheet of its own", bump, LEN(bump), false, 31, drawn(whole, LEN(whole), 1), 13, 4);
+
     why("why 0", m7, LEN(m7), false, 10, nothing, 0, SPARE, 0);
     why("why 2", m7, LEN(m7), false, 10, nothing, 2, SPARE, 0);
     why("why 4", m7, LEN(m7), false, 10, nothing, 4, 0, 0);
@@ -321,6 +369,8 @@ int main(void)
     why("cut by a draw", bump, LEN(bump), false, 40, drawn(draws, LEN(draws), 1), 2, 1, 1);
     why("cut behind it", bump, LEN(bump), false, 40, drawn(draws, LEN(draws), 1), 4, 1 + SPARE, 1);
     why("cut by a layer", bump, LEN(bump), false, 40, layered(half), 2, 3, 2);
+    why_in("cut by the second layer", bump, LEN(bump), false, 40, second, 2, 10, 2, TEXT);
+    why_in("cut by its own", bump, LEN(bump), false, 31, drawn(whole, LEN(whole), 1), 4, 1, 1, TEXT);
     why("last row", last, LEN(last), false, 48, nothing, 3, SPARE, 0);
     why("last row closed", last, LEN(last), true, 48, nothing, 3, SPARE, 0);
 
@@ -358,6 +408,7 @@ int main(void)
     segments("4,097 records without draws", bump, LEN(bump), false, drawn(none, 0, 4097), 3);
     tree("4,097 records of a tree", bump, LEN(bump), false, 40, drawn(draws, LEN(draws), 4097), 13, 4);
     segments("short for draws", bump, LEN(bump), false, drawn(draws, LEN(draws), 3), 2);
+    segments_in("three entries a record", bump, LEN(bump), false, drawn(draws, LEN(draws), 3), 9, 3);
     segments("short and past the run", bump, LEN(bump), false, drawn(past, LEN(past), 3), 2);
     tree("short counts and past the run", bump, LEN(bump), false, 40, drawn(past, LEN(past), 1), 13, 3);
     segments("past the run", bump, LEN(bump), false, drawn(past, LEN(past), 1), 1);
@@ -370,5 +421,15 @@ int main(void)
     why("why past the run", bump, LEN(bump), false, 40, drawn(past, LEN(past), 1), 2, 1, 0);
     why("why 8", m7, LEN(m7), false, 10, nothing, 8, SPARE, 0);
     why("why the last of all", m7, LEN(m7), false, 10, nothing, SIZE_MAX, SPARE, 0);
+    why_in("short text of a cut", m7, LEN(m7), false, 10, nothing, 4, SPARE, 0, TEXT - 1);
+    why_in("short text of a cut by a draw", bump, LEN(bump), false, 40, drawn(draws, LEN(draws), 1), 2, 1, 0, TEXT - 1);
+    why_in("short text of a cut by a layer", bump, LEN(bump), false, 40, layered(half), 2, 3, 0, TEXT - 1);
+    why_in("short text of 0", m7, LEN(m7), false, 10, nothing, 0, SPARE, 0, TEXT - 1);
+    why_in("short text of 5", m7, LEN(m7), false, 10, nothing, 5, SPARE, 0, TEXT - 1);
+    why_in("short text of no number", high, LEN(high), false, -1, nothing, 1, SPARE, 0, TEXT - 1);
+    why_in("short text of not above", bump, LEN(bump), false, 40, nothing, 4, SPARE, 0, TEXT - 1);
+    why_in("short text of 8", m7, LEN(m7), false, 10, nothing, 8, SPARE, 0, TEXT - 1);
+    why_in("no text", m7, LEN(m7), false, 10, nothing, 4, SPARE, 0, 0);
+    why_in("no text and NaN", m7, LEN(m7), false, infinite[1] - infinite[1], nothing, 4, SPARE, 0, 0);
     return 0;
 }

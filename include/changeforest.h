@@ -76,22 +76,31 @@ uint32_t changeforest_find_best_split(const double *cells, size_t cells_len, siz
                                       const size_t *forbidden, size_t forbidden_len, size_t start, size_t stop, double *sums,
                                       size_t sums_len, size_t *split, double *gain);
 
-/* The records of the segments of all layers, or of those drawn, and how many, into count: start, stop and best split of each into rows,
-   three entries a record, its gain into gains. A layer's value v gives 2*ceil(f32(1/v))-1 segments. A draw with start >= stop is passed
-   over; the others are searched in order until w records stand or there are no more. A segment that a search would refuse leaves no
-   record. sums takes the matrix's prefix sums. Room: sums (n+1)*d; with T the layers' segments summed, or w where draws_len is not 0,
-   rows 3*T and gains T. Refusals: 1, 2, 4, 5, 6, 7, 8 (draws). */
+/* Where a record comes from, its origin, is told by a kind and a number. No choice depends on it. The kinds: */
+enum {
+    CHANGEFOREST_DIRECT = 0, /* a segment's own search while the tree is grown; number is 0 */
+    CHANGEFOREST_LAYER = 1,  /* a layer; number is its place in layers, from 1 */
+    CHANGEFOREST_DRAW = 2    /* a draw; number is its pair's place in draws, from 0, pairs that leave no record counted too */
+};
+
+/* The records of the segments of all layers, or of those drawn, and how many, into count: start, stop, best split, kind and number of
+   each into rows, five entries a record, its gain into gains. A layer's value v gives 2*ceil(f32(1/v))-1 segments. A draw with
+   start >= stop is passed over; the others are searched in order until w records stand or there are no more. A segment that a search
+   would refuse leaves no record. sums takes the matrix's prefix sums. Room: sums (n+1)*d; with T the layers' segments summed, or w where
+   draws_len is not 0, rows 5*T and gains T. Refusals: 1, 2, 4, 5, 6, 7, 8 (draws). */
 uint32_t changeforest_stored_segments(const double *cells, size_t cells_len, size_t n, size_t d, size_t m, bool closed,
                                       const size_t *forbidden, size_t forbidden_len, const double *layers, size_t layers_len,
                                       const size_t *draws, size_t draws_len, size_t w, double *sums, size_t sums_len, size_t *rows,
                                       size_t rows_len, double *gains, size_t gains_len, size_t *count);
 
-/* The best split of [start, stop) and its gain. */
+/* The best split of [start, stop), its gain, and its origin. */
 struct changeforest_record {
     size_t start;
     size_t stop;
     size_t split;
     double gain;
+    size_t kind;
+    size_t number;
 };
 
 /* A segment of the tree: whether it is cut; its choice, where it has one (else all zero), which may carry the ends of a stored segment
@@ -110,7 +119,7 @@ struct changeforest_node {
    The nodes in preorder into nodes, the rows that are cut from left to right into cuts; the records into rows and gains, first those that
    changeforest_stored_segments stores, as it does. counts takes how many nodes, records and cuts there are, and how many of the records
    are stored ones, in this order. sums takes the matrix's prefix sums. Room: sums (n+1)*d; with T as there and B the greater of 1 and
-   2*floor((n-1)/m)-1, or 2*floor(n/m)-1 where closed is true, rows 3*(T+B), gains T+B, nodes B, cuts (B-1)/2; counts 4.
+   2*floor((n-1)/m)-1, or 2*floor(n/m)-1 where closed is true, rows 5*(T+B), gains T+B, nodes B, cuts (B-1)/2; counts 4.
    Refusals: 1, 2, 3 (threshold), 4, 5, 6, 7, 8 (draws). */
 uint32_t changeforest_tree(const double *cells, size_t cells_len, size_t n, size_t d, size_t m, bool closed, double threshold,
                            const size_t *forbidden, size_t forbidden_len, const double *layers, size_t layers_len, const size_t *draws,
@@ -129,15 +138,17 @@ enum {
 
 /* Why a row is on the sheet or is not. The tree that changeforest_tree grows of the same arguments is gone down from the run to the
    segment that is cut at row, or to the one that holds row and is not cut: its own ends into start and stop, whatever its choice carries.
-   Where it is not cut, reason takes the first of the other four that applies: so each before it is false. For CHANGEFOREST_BARRED alone
-   the pair goes into a and b, for CHANGEFOREST_BELOW alone the gain into gain; otherwise they stay as they were. Row 0 is too near an
-   end. sums, rows and gains are left as changeforest_stored_segments leaves them. Room: sums (n+1)*d; with T as there, rows 3*T and
-   gains T. Refusals: 1, 2, 3 (threshold), 4, 5, 6, 7, 8 (draws, row). */
+   Where it is not cut, reason takes the first of the other four that applies: so each before it is false. For CHANGEFOREST_CUT alone the
+   origin of the choice goes into kind and number, and once more into text, as "direct", "layer K" or "draw K" with number for K, and how
+   many bytes these are into length; no NUL stands behind them. For CHANGEFOREST_BARRED alone the pair goes into a and b, for
+   CHANGEFOREST_BELOW alone the gain into gain. Otherwise all these stay as they were. Row 0 is too near an end. sums, rows and gains are
+   left as changeforest_stored_segments leaves them. Room: sums (n+1)*d; with T as there, rows 5*T and gains T; text 25, also where the
+   answer writes none. Refusals: 1, 2, 3 (threshold), 4, 5, 6, 7, 8 (draws, row). */
 uint32_t changeforest_why(const double *cells, size_t cells_len, size_t n, size_t d, size_t m, bool closed, double threshold,
                           const size_t *forbidden, size_t forbidden_len, const double *layers, size_t layers_len, const size_t *draws,
                           size_t draws_len, size_t w, size_t row, double *sums, size_t sums_len, size_t *rows, size_t rows_len,
-                          double *gains, size_t gains_len, uint32_t *reason, size_t *start, size_t *stop, size_t *a, size_t *b,
-                          double *gain);
+                          double *gains, size_t gains_len, char *text, size_t text_len, uint32_t *reason, size_t *start, size_t *stop,
+                          size_t *kind, size_t *number, size_t *length, size_t *a, size_t *b, double *gain);
 
 /* For each row all rows by squared distance from it, equal ones by lower index, into ordering, row after row; distances takes the
    last row's. Room: ordering n*n, distances n. Refusals: 1, 4, 7. */

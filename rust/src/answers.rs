@@ -1,4 +1,6 @@
-//! What a call answers. None of these can be built or taken apart field by field outside this crate: a later field breaks no caller.
+//! What a call answers. None of these but [`Origin`] can be built or taken apart field by field outside this crate: a later field breaks
+//! no caller.
+use std::fmt;
 
 /// A split and its gain.
 #[derive(Clone, Copy, Debug, PartialEq)]
@@ -8,7 +10,46 @@ pub struct Split {
     pub gain: f64,
 }
 
-/// The best split of `[start, stop)` and its gain.
+/// Where a record comes from. No choice depends on it.
+#[derive(Clone, Copy, Debug, PartialEq, Eq)]
+pub enum Origin {
+    /// A segment's own search while the tree is grown.
+    Direct,
+    /// A layer: its place in the list, from 1.
+    Layer(usize),
+    /// A draw: its pair's place in the list, from 0. Pairs that leave no record are counted too.
+    Draw(usize),
+}
+
+impl Origin {
+    /// The origin that is told by a kind and a number, as the library tells it; nothing where none is told so.
+    pub fn of(kind: usize, number: usize) -> Option<Origin> {
+        match (kind, number) {
+            (0, 0) => Some(Origin::Direct),
+            (1, number) => Some(Origin::Layer(number)),
+            (2, number) => Some(Origin::Draw(number)),
+            _ => None,
+        }
+    }
+
+    /// The origin that the library tells.
+    pub(crate) fn told(kind: usize, number: usize) -> Origin {
+        Origin::of(kind, number).expect("the library has three kinds")
+    }
+}
+
+/// The text of the library: `direct`, `layer 3`, `draw 0`.
+impl fmt::Display for Origin {
+    fn fmt(&self, f: &mut fmt::Formatter) -> fmt::Result {
+        match self {
+            Origin::Direct => write!(f, "direct"),
+            Origin::Layer(number) => write!(f, "layer {number}"),
+            Origin::Draw(number) => write!(f, "draw {number}"),
+        }
+    }
+}
+
+/// The best split of `[start, stop)`, its gain, and where it comes from, by a kind and a number as the library tells it.
 #[derive(Clone, Copy, Debug, Default, PartialEq)]
 #[non_exhaustive]
 #[repr(C)]
@@ -17,6 +58,15 @@ pub struct Record {
     pub stop: usize,
     pub split: usize,
     pub gain: f64,
+    pub kind: usize,
+    pub number: usize,
+}
+
+impl Record {
+    /// Where it comes from.
+    pub fn origin(&self) -> Origin {
+        Origin::told(self.kind, self.number)
+    }
 }
 
 /// A segment of the tree: whether it is cut, its choice, and the places of its parts (0 and 0 where it is not cut).
@@ -33,7 +83,7 @@ pub struct Node {
     pub right: usize,
 }
 
-const _: () = assert!(std::mem::size_of::<Node>() == 72);
+const _: () = assert!(std::mem::size_of::<Node>() == 88);
 
 impl Node {
     /// The record that decides over the segment; it may carry the ends of a stored segment inside it.
@@ -67,9 +117,9 @@ pub struct Tree {
 /// first of the other four that applies, so that each before it is false.
 #[derive(Clone, Copy, Debug, PartialEq)]
 pub enum Why {
-    /// The segment is cut at the row.
+    /// The segment is cut at the row, by a record of this origin, the text of which has `length` bytes.
     #[non_exhaustive]
-    Cut { start: usize, stop: usize },
+    Cut { origin: Origin, length: usize, start: usize, stop: usize },
     /// The row is too near an end for a part of m rows.
     #[non_exhaustive]
     TooNear { start: usize, stop: usize },

@@ -37,7 +37,8 @@ extern "C" {
         forbidden: *const usize, forbidden_len: usize, layers: *const f64, layers_len: usize,
         draws: *const usize, draws_len: usize, w: usize, row: usize,
         sums: *mut f64, sums_len: usize, rows: *mut usize, rows_len: usize, gains: *mut f64, gains_len: usize,
-        reason: *mut u32, start: *mut usize, stop: *mut usize, a: *mut usize, b: *mut usize, gain: *mut f64,
+        text: *mut u8, text_len: usize, reason: *mut u32, start: *mut usize, stop: *mut usize,
+        kind: *mut usize, number: *mut usize, length: *mut usize, a: *mut usize, b: *mut usize, gain: *mut f64,
     ) -> u32;
     pub fn changeforest_ordering(
         cells: *const f64, cells_len: usize, n: usize, d: usize, ordering: *mut u32, ordering_len: usize,

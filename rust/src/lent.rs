@@ -20,4 +20,4 @@ pub use mean::{find_best_split, gain, split_candidates};
 pub use neighbours::{ordering, predict, PredictRoom};
 pub use tree::{stored_segments, tree, SegmentsRoom, TreeRoom};
 pub use two_step::{guesses, pick};
-pub use why::why;
+pub use why::{why, WhyRoom};

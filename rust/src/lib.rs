@@ -26,6 +26,6 @@ pub mod lent;
 pub mod owned;
 mod refusal;
 
-pub use answers::{Counts, Guesses, Node, Record, Split, Tested, Tree, Why};
+pub use answers::{Counts, Guesses, Node, Origin, Record, Split, Tested, Tree, Why};
 pub use asked::{Curves, Lists, Matrix, Permutations, Segments, Settings};
 pub use refusal::Refusal;

@@ -1,7 +1,7 @@
 //! The entry points that need room, with room of their own: refusal 7 is never given. The others are those of [`lent`].
 use std::ops::Range;
 
-use crate::lent::{self, PredictRoom, SegmentsRoom, TreeRoom};
+use crate::lent::{self, PredictRoom, SegmentsRoom, TreeRoom, WhyRoom};
 use crate::{Lists, Matrix, Node, Record, Refusal, Segments, Settings, Split, Tree, Why};
 
 /// The sizes of documents 01 and 02. Beyond them a call is refused by 1 or 6, whatever its room: none is allocated.
@@ -10,6 +10,10 @@ const MOST_COLUMNS: usize = 64;
 const MOST_NEIGHBOURS: usize = 1024;
 const MOST_LAYERS: usize = 64;
 const MOST_STORED: usize = 4096;
+
+/// Entries of `rows` for each record, and bytes for the text of an origin.
+const ENTRIES: usize = 5;
+const TEXT: usize = 25;
 
 fn sums_room(matrix: Matrix) -> Vec<f64> {
     if matrix.rows > MOST_ROWS || matrix.columns > MOST_COLUMNS {
@@ -59,18 +63,18 @@ pub fn find_best_split(matrix: Matrix, segment: Range<usize>, settings: &Setting
     lent::find_best_split(matrix, segment, settings, &mut sums_room(matrix))
 }
 
-/// Three entries of `rows` and one of `gains` for each record.
+/// Five entries of `rows` and one of `gains` for each record.
 fn records(rows: &[usize], gains: &[f64], count: usize) -> Vec<Record> {
-    rows.chunks_exact(3)
+    rows.chunks_exact(ENTRIES)
         .zip(gains)
         .take(count)
-        .map(|(r, &gain)| Record { start: r[0], stop: r[1], split: r[2], gain })
+        .map(|(r, &gain)| Record { start: r[0], stop: r[1], split: r[2], gain, kind: r[3], number: r[4] })
         .collect()
 }
 
-/// Room for three entries of `rows` and one of `gains` for each record.
+/// Room for five entries of `rows` and one of `gains` for each record.
 fn records_room(count: usize) -> (Vec<usize>, Vec<f64>) {
-    (vec![0; 3 * count], vec![0.0; count])
+    (vec![0; ENTRIES * count], vec![0.0; count])
 }
 
 /// The records that searching the segments stores. Reads m, closed and forbidden.
@@ -108,7 +112,7 @@ pub fn tree(matrix: Matrix, settings: &Settings, segments: Segments) -> Result<T
 pub fn why(matrix: Matrix, settings: &Settings, segments: Segments, row: usize) -> Result<Why, Refusal> {
     let lists = Lists::from(segments);
     let (mut sums, (mut rows, mut gains)) = (sums_room(matrix), records_room(most_stored(lists)));
-    let room = SegmentsRoom { sums: &mut sums, rows: &mut rows, gains: &mut gains };
+    let room = WhyRoom { sums: &mut sums, rows: &mut rows, gains: &mut gains, text: &mut [0; TEXT] };
     lent::why(matrix, settings, lists, row, room)
 }
 

@@ -86,10 +86,10 @@ fn the_most_nodes() {
 fn the_trees_room_follows() {
     let readings = column(&[0.0; 4]);
     let settings = Settings { threshold: -1.0, ..closed(1) };
-    let (mut sums, mut rows, mut gains) = ([7.5; 5], [77; 21], [7.5; 7]);
+    let (mut sums, mut rows, mut gains) = ([7.5; 5], [77; 35], [7.5; 7]);
     let (mut nodes, mut cuts) = ([Node::default(); 7], [77; 3]);
     let mut grown = |most: usize, records: usize, cuts: &mut [usize]| {
-        let (rows, gains, nodes) = (&mut rows[..3 * records], &mut gains[..records], &mut nodes[..most]);
+        let (rows, gains, nodes) = (&mut rows[..5 * records], &mut gains[..records], &mut nodes[..most]);
         lent::tree(readings, &settings, Lists::default(), TreeRoom { sums: &mut sums, rows, gains, nodes, cuts })
     };
     assert_eq!(number(grown(6, 7, &mut cuts)), 7);

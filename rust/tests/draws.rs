@@ -3,7 +3,7 @@ use haspgarnet_changeforest::lent::{self, SegmentsRoom, TreeRoom};
 use haspgarnet_changeforest::{owned, Lists, Node, Segments, Settings, Tree};
 
 mod common;
-use common::{choice, column, fields, number, with_m};
+use common::{choice, column, fields, number, with_m, without_origins};
 
 /// The sums are 0, 0, 0, 8, 16, 16, 16, 16, 16. With m = 1, [0, 4) is best cut at 2, as [2, 6) at 4, by 32*32/16 = 64.
 const BUMP: [f64; 8] = [0.0, 0.0, 8.0, 8.0, 0.0, 0.0, 0.0, 0.0];
@@ -33,7 +33,7 @@ impl Memory {
     fn of(records: usize) -> Memory {
         Memory {
             sums: vec![7.5; 9],
-            rows: vec![77; 3 * records],
+            rows: vec![77; 5 * records],
             gains: vec![7.5; records],
             nodes: vec![Node::default(); NODES],
             cuts: vec![77; 6],
@@ -53,17 +53,17 @@ impl Memory {
 /// What is stored, by both forms of the call; the lent one has room for just as many records as it asks.
 fn stored(settings: &Settings, pairs: &[usize], most: usize) -> Vec<(usize, usize, usize, f64)> {
     let (readings, segments) = (column(&BUMP), Segments::Draws { pairs, most });
-    let owned: Vec<_> = owned::stored_segments(readings, settings, segments).unwrap().iter().map(fields).collect();
+    let owned = owned::stored_segments(readings, settings, segments).unwrap();
     let asked = if pairs.is_empty() { 0 } else { most };
     let mut memory = Memory::of(asked);
     let count = lent::stored_segments(readings, settings, segments.into(), memory.segments()).unwrap();
-    let rows: Vec<_> = owned.iter().flat_map(|&(start, stop, split, _)| [start, stop, split]).collect();
-    let gains: Vec<_> = owned.iter().map(|&(_, _, _, gain)| gain).collect();
+    let rows: Vec<_> = owned.iter().flat_map(|r| [r.start, r.stop, r.split, r.kind, r.number]).collect();
+    let gains: Vec<_> = owned.iter().map(|r| r.gain).collect();
     assert_eq!(count, owned.len());
-    assert_eq!(memory.rows, [rows, vec![77; 3 * (asked - count)]].concat());
+    assert_eq!(memory.rows, [rows, vec![77; 5 * (asked - count)]].concat());
     assert_eq!(memory.gains, [gains, vec![7.5; asked - count]].concat());
     assert_eq!(memory.sums, [0.0, 0.0, 0.0, 8.0, 16.0, 16.0, 16.0, 16.0, 16.0]);
-    owned
+    owned.iter().map(fields).collect()
 }
 
 /// The tree, by both forms of the call.
@@ -166,13 +166,14 @@ fn the_earliest_of_the_greatest_decides() {
     assert_eq!(first(&[2, 6, 0, 4]), Some(FALL));
 }
 
-/// The layer's segments are [0, 4), [2, 6) and [4, 8).
+/// The layer's segments are [0, 4), [2, 6) and [4, 8). Drawn, they give the same tree, but for where its records come from.
 #[test]
 fn stored_records_are_counted_of_layers_too() {
     let tree = grown(&settings(), Segments::Layers(&[0.5]));
     let drawn = grown(&settings(), Segments::Draws { pairs: &[0, 4, 2, 6, 4, 8], most: 3 });
     assert_eq!(tree.stored, 3);
-    assert_eq!(tree, drawn);
+    assert_eq!(without_origins(&tree), without_origins(&drawn));
+    assert_ne!(tree, drawn);
 }
 
 #[test]

@@ -1,5 +1,7 @@
 //! The marked cases of document 01, through both forms of the functions.
-use haspgarnet_changeforest::{lent, owned, Curves, Matrix, Permutations, Record, Refusal, Segments, Settings, Why};
+use haspgarnet_changeforest::{
+    lent, owned, Curves, Matrix, Origin, Permutations, Record, Refusal, Segments, Settings, Why,
+};
 
 mod common;
 use common::{choice, column, place, with_m};
@@ -157,7 +159,7 @@ fn to_the_others_an_empty_list_is_none() {
 fn the_page() -> Result<(), Refusal> {
     let cells = [
         3.0, 10.0, 4.0, 10.0, 3.0, 11.0, 4.0, 10.0, 3.0, 10.0, 9.0, 10.0, //
-        8.0, 10.0, 9.0, 11.0, 8.0, 10.0, 9.0, 15.0, 8.0, 15.0, 9.0, 14.0,
+        8.0, 10.0, 9.0, 11.0, 8.0, 10.0, 4.0, 10.0, 3.0, 11.0, 4.0, 10.0,
     ];
     let readings = Matrix { cells: &cells, rows: 12, columns: 2 };
     let settings = Settings { m: 2, threshold: 10.0, forbidden: Some(&[2, 3]), ..Settings::default() };
@@ -165,5 +167,8 @@ fn the_page() -> Result<(), Refusal> {
     assert_eq!(sheet, [5, 9]);
     let why = owned::why(readings, &settings, Segments::Layers(&[0.5]), 7)?;
     assert!(matches!(why, Why::TooNear { start: 5, stop: 9, .. }));
+    let cut = |row| owned::why(readings, &settings, Segments::Layers(&[0.5]), row);
+    assert!(matches!(cut(5)?, Why::Cut { origin: Origin::Layer(1), start: 0, stop: 12, .. }));
+    assert!(matches!(cut(9)?, Why::Cut { origin: Origin::Direct, start: 5, stop: 12, .. }));
     Ok(())
 }

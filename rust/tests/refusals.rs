@@ -60,7 +60,7 @@ fn trees() {
     assert_eq!(number(owned::tree(readings, &cut_at(f64::NAN), Segments::None)), 3);
     assert_eq!(number(owned::tree(readings, &cut_at(0.0), Segments::Layers(&[0.0]))), 6);
     assert_eq!(number(owned::tree(HUGE_MATRIX, &cut_at(0.0), Segments::None)), 1);
-    let (mut sums, mut rows, mut gains) = ([7.5; 6], [77; 21], [7.5; 7]);
+    let (mut sums, mut rows, mut gains) = ([7.5; 6], [77; 35], [7.5; 7]);
     let (mut nodes, mut cuts) = ([Node::default(); 7], [77; 3]);
     let mut grown = |most: usize, cuts: &mut [usize]| {
         let nodes = &mut nodes[..most];

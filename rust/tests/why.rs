@@ -1,5 +1,5 @@
 //! Why a row is on the sheet or is not: each reason, what is lent, what is refused.
-use haspgarnet_changeforest::lent::{self, SegmentsRoom};
+use haspgarnet_changeforest::lent::{self, SegmentsRoom, WhyRoom};
 use haspgarnet_changeforest::{owned, Lists, Matrix, Segments, Settings, Why};
 use std::thread;
 
@@ -35,26 +35,39 @@ struct Memory {
     sums: Vec<f64>,
     rows: Vec<usize>,
     gains: Vec<f64>,
+    text: Vec<u8>,
 }
 
 impl Memory {
     /// For so many sums and records.
     fn of(sums: usize, records: usize) -> Memory {
-        Memory { sums: vec![7.5; sums], rows: vec![77; 3 * records], gains: vec![7.5; records] }
+        Memory { sums: vec![7.5; sums], rows: vec![77; 5 * records], gains: vec![7.5; records], text: vec![7; 25] }
     }
 
-    fn lend(&mut self) -> SegmentsRoom<'_> {
+    fn lend(&mut self) -> WhyRoom<'_> {
+        WhyRoom { sums: &mut self.sums, rows: &mut self.rows, gains: &mut self.gains, text: &mut self.text }
+    }
+
+    fn segments(&mut self) -> SegmentsRoom<'_> {
         SegmentsRoom { sums: &mut self.sums, rows: &mut self.rows, gains: &mut self.gains }
+    }
+
+    /// The text of what is told, where it has one.
+    fn write(&mut self, why: Why) {
+        if let Why::Cut { origin, length, .. } = why {
+            self.text[..length].copy_from_slice(origin.to_string().as_bytes());
+        }
     }
 }
 
 /// The answer, by both forms of the call; the lent one has some entries more than it asks, at most three records being stored, and leaves
-/// them as the call that stores alone does.
+/// them as the call that stores alone does, but for the text of a cut.
 fn why(readings: Matrix, settings: &Settings, segments: Segments, row: usize) -> Told {
     let mut memory = Memory::of((readings.rows + 1) * readings.columns + 2, 5);
     let mut stored = memory.clone();
     let lent = lent::why(readings, settings, segments.into(), row, memory.lend()).unwrap();
-    lent::stored_segments(readings, settings, segments.into(), stored.lend()).unwrap();
+    lent::stored_segments(readings, settings, segments.into(), stored.segments()).unwrap();
+    stored.write(lent);
     assert_eq!(memory, stored);
     assert_eq!(owned::why(readings, settings, segments, row), Ok(lent));
     told(lent)
@@ -316,7 +329,7 @@ fn the_lowest_number_is_given() {
     assert_eq!(refused(column(&BUMP), &cut_above(0.0), even, 99), 6);
 }
 
-/// Nine sums, and two records where two may be stored; nothing for nodes or cuts.
+/// Nine sums, two records where two may be stored, and the text; nothing for nodes or cuts.
 #[test]
 fn room() {
     let (bump, good) = (column(&BUMP), cut_above(40.0));
@@ -334,7 +347,7 @@ fn room() {
     let mut memory = Memory::of(8, 0);
     assert_eq!(number(lent::why(bump, &good, Lists::default(), 2, memory.lend())), 7);
     assert_eq!(memory, Memory::of(8, 0));
-    assert_eq!(number(lent::why(bump, &good, Lists::default(), 2, SegmentsRoom::default())), 7);
+    assert_eq!(number(lent::why(bump, &good, Lists::default(), 2, WhyRoom::default())), 7);
     let most = Lists { most: 4096, ..Lists::default() };
     let mut memory = Memory::of(9, 0);
     assert_eq!(told(lent::why(bump, &good, most, 4, memory.lend()).unwrap()), (Below(32.0), 0, 8));

@@ -18,7 +18,7 @@ judging = record {
   ks = shared f64 ∷ shared usize ∷ plain asked ∷ plain position ∷ plain position ∷ unique usize ∷ unique f64 ∷ plain counts ∷ [];
   res = judged;
   asks = λ (sums, (_, (s, (start, (stop, (rows, (gains, (at, _)))))))).
-      (start .0 ≤ stop .0) × Sized s (stop .0) (length (now (sums .x))) × (at .nodes + 1 < 2 ^ 64) × (at .records + 1 < 2 ^ 64) × (3 * at .records + 3 ≤ length (rows .list)) × (at .records < length (gains .list));
+      (start .0 ≤ stop .0) × Sized s (stop .0) (length (now (sums .x))) × (at .nodes + 1 < 2 ^ 64) × (at .records + 1 < 2 ^ 64) × (5 * at .records + 5 ≤ length (rows .list)) × (at .records < length (gains .list));
   says = λ (sums, (forbidden, (s, (start, (stop, (rows, (gains, (at, _)))))))) r (_, (_, (_, (_, (_, (rows′, (gains′, _))))))).
       Judging (over (now (sums .x)) (now (forbidden .x)) s) (start .0) (stop .0) at (rows .list) (gains .list) rows′ gains′ r;
 }

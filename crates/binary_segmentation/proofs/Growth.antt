@@ -20,11 +20,12 @@ use Rattle.stored.proofs.Flat.{put-more, put-long, put-read}
 use Rattle.node.specs.declared.Node.{Node as NodeStruct}
 use Rattle.optimizer.specs.declared.optimizer_result.GainRecord.{GainRecord}
 use Rattle.optimizer.specs.Records.{toRecord, fromRecord}
+use Rattle.optimizer.proofs.Origins.{to-from}
 use Rattle.binary_segmentation.specs.declared.tree.Counts.{Counts}
 use Rattle.binary_segmentation.specs.declared.tree.Judged.the-variants.{Uncut, Cut}
 use Rattle.node.specs.Nodes.{toNode, leafOf, cutOf}
 use Rattle.binary_segmentation.specs.Growth.{Lent, stored, judgedOf, behind, behindCut, Judging, Written, Growing, Sound, Fits}
-use Rattle.demand.proofs.Records.{direct-found, one-found}
+use Rattle.demand.proofs.Records.{Found, direct-found, one-found}
 use Rattle.demand.proofs.Inside.{inside-are}
 use Rattle.scope.proofs.Candidates.{one-at-most}
 use Rattle.scope.proofs.Greatest.{first-one}
@@ -48,15 +49,15 @@ module _ (q : Run) where
       go none e = never (cc)
       go (some r) e = test r (lt (q .threshold) (r .gain)) refl e
 
-  pub direct-sound : (start stop : ℕ) (r : Record) → direct q start stop ≡ some r → (t : Float) → lt t (r .gain) ≡ true → (r .start + q .shortest .m ≤ r .split) × (r .split + q .shortest .m ≤ r .stop)
-  direct-sound start stop r h t k = let f = direct-found q start stop r h in let w = f .row t k in (omega (arith, f .start-is, w .low), omega (arith, f .stop-is, w .high, one-at-most (q .shortest)))
+  pub found-sound : (start stop : ℕ) (r : Record) → Found q start stop r → (t : Float) → lt t (r .gain) ≡ true → (r .start + q .shortest .m ≤ r .split) × (r .split + q .shortest .m ≤ r .stop)
+  found-sound start stop r f t k = let w = f .row t k in (omega (arith, f .start-is, w .low), omega (arith, f .stop-is, w .high, one-at-most (q .shortest)))
 
   pub cut-within : (rs : List Record) (start stop : ℕ) (c : Record) → Sound (q .shortest) rs → verdict q rs start stop ≡ cut c → (start + q .shortest .m ≤ c .split) × (c .split + q .shortest .m ≤ stop)
   cut-within rs start stop c sound h =
       let (e, t) = cut-chosen rs start stop c h in
       let (d, f, g) = choice-of q rs start stop c e in
       ⊎-elim
-      (λ (w : c ≡ d). let z = direct-sound start stop d f (q .threshold) (rw w at t) in let k = direct-found q start stop d f in (rw w (omega (arith, k .start-is)), rw w (omega (arith, k .stop-is))))
+      (λ (w : c ≡ d). let k = direct-found q start stop d f in let z = found-sound start stop d k (q .threshold) (rw w at t) in (rw w (omega (arith, k .start-is)), rw w (omega (arith, k .stop-is))))
       (λ i. let (a, b, j) = inside-are start stop rs c i in let z = sound c j (q .threshold) t in (omega arith, omega arith))
       (List·Memᴰ·cases-cons (first-one g))
 
@@ -65,7 +66,7 @@ module _ (q : Run) where
   sound-append rs more h k r i = ⊎-elim (h r) (k r) (List·Memᴰ·append-cases rs i)
 
   pub one-sound : (start stop : ℕ) → Sound (q .shortest) (one (direct q start stop))
-  one-sound start stop r i = direct-sound start stop r (one-found q start stop r i)
+  one-sound start stop r i = found-sound start stop r (direct-found q start stop r (one-found (direct q start stop) r i))
 
   -- what is made: sound, and at most a record for each node
   record Modest (g : Grown) : Type 0 where
@@ -143,7 +144,7 @@ of-uncut start stop n (cut c) d next h = never (cc)
 
 of-cut : (start stop : ℕ) (n : Counts) (v : Verdict) (c : GainRecord) (next : Counts) → Cut c next ≡ judgedOf start stop n v → (v ≡ cut (toRecord c)) × (next ≡ n)
 of-cut start stop n (uncut o) c next h = never (cc)
-of-cut start stop n (cut r) c next h = let w : c ≡ fromRecord r = cc in (ap (λ (x : GainRecord). cut (toRecord x)) (sym w), (cc))
+of-cut start stop n (cut r) c next h = let w : c ≡ fromRecord r = cc in (ap cut (sym (to-from r)) ∙ ap (λ (x : GainRecord). cut (toRecord x)) (sym w), (cc))
 
 module _ (q : Run) (start stop : ℕ) (at : Counts) (l : Lent) (fits : Fits q start stop at l) where
   abbrev rs : List Record
@@ -153,7 +154,7 @@ module _ (q : Run) (start stop : ℕ) (at : Counts) (l : Lent) (fits : Fits q st
   d = one (direct q start stop)
 
   -- there is room for a node and a record
-  pub room-here : (3 * at .records + 3 ≤ length (l .rows)) × (at .records < length (l .gains)) × (at .nodes < length (l .nodes))
+  pub room-here : (5 * at .records + 5 ≤ length (l .rows)) × (at .records < length (l .gains)) × (at .nodes < length (l .nodes))
   room-here =
       let some = nodes-some (grow q (fits .fuel) rs start stop .tree) in
       (omega (arith, fits .room-rows), omega (arith, fits .room-gains), omega (arith, fits .room-nodes))
@@ -202,12 +203,12 @@ module _ (q : Run) (start stop : ℕ) (at : Counts) (l : Lent) (fits : Fits q st
       record Opened : Type 0 where
         k : ℕ
         enough : stop - start ≤ suc k
-        rows-fit : 3 * (at .records + suc (nodeCount (L k .tree) + nodeCount (R k .tree))) ≤ length (l .rows)
+        rows-fit : 5 * (at .records + suc (nodeCount (L k .tree) + nodeCount (R k .tree))) ≤ length (l .rows)
         gains-fit : at .records + suc (nodeCount (L k .tree) + nodeCount (R k .tree)) ≤ length (l .gains)
         nodes-fit : at .nodes + suc (nodeCount (L k .tree) + nodeCount (R k .tree)) ≤ length (l .nodes)
         cuts-fit : at .cuts + (length (sheet (L k .tree)) + suc (length (sheet (R k .tree)))) ≤ length (l .cuts)
 
-      open-at : (k : ℕ) → stop - start ≤ k → 3 * (at .records + nodeCount (grow q k rs start stop .tree)) ≤ length (l .rows) → at .records + nodeCount (grow q k rs start stop .tree) ≤ length (l .gains)
+      open-at : (k : ℕ) → stop - start ≤ k → 5 * (at .records + nodeCount (grow q k rs start stop .tree)) ≤ length (l .rows) → at .records + nodeCount (grow q k rs start stop .tree) ≤ length (l .gains)
           → at .nodes + nodeCount (grow q k rs start stop .tree) ≤ length (l .nodes) → at .cuts + length (sheet (grow q k rs start stop .tree)) ≤ length (l .cuts) → Opened
       unfolding nodeCount
       open-at zero le a b c′ e = absurd (omega (arith, fits .nonempty))
@@ -256,10 +257,10 @@ module _ (q : Run) (start stop : ℕ) (at : Counts) (l : Lent) (fits : Fits q st
         long = written-long (left-by (split - start) (omega arith))
 
         -- the records so far
-        stored-right : (k : ℕ) → split - start ≤ k → 3 * n₂ .records ≤ length (l .rows) → n₂ .records ≤ length (l .gains) → stored l₂ (n₂ .records) ≡ (rs ++ d) ++ L k .made
+        stored-right : (k : ℕ) → split - start ≤ k → 5 * n₂ .records ≤ length (l .rows) → n₂ .records ≤ length (l .gains) → stored l₂ (n₂ .records) ≡ (rs ++ d) ++ L k .made
         stored-right k le h g = put-read (rw rows-long h) (rw gains-long g) (left-by k le .records) ∙ ap (λ (z : List Record). z ++ L k .made) (rw first-is at stored-left)
 
-        records-fit : (3 * n₂ .records ≤ length (l .rows)) × (n₂ .records ≤ length (l .gains))
+        records-fit : (5 * n₂ .records ≤ length (l .rows)) × (n₂ .records ≤ length (l .gains))
         records-fit =
             let o = opened in
             let m = modest q (o .k) (rs ++ d) start split in

@@ -1,59 +1,37 @@
 -- The whole run is grown behind the stored segments' records: there is room for it, and the lent memory then holds what the definitions tell. Assumes nothing.
-use mathlib.Core.Path.{_≡_, refl, ap, _∙_}
-use mathlib.Core.List.{List, [], _∷_, _++_, map}
+use mathlib.Core.Path.{_≡_, refl, _∙_}
+use mathlib.Core.List.{List, _++_, map}
 use Prim.Native.Nat.{ℕ, zero, suc, _+_, _-_, _*_, _/_, _≤_}
 use native.Mathlib.Nat.{zero-add}
 use native.Mathlib.Omega.{arith}
 use lib.Ieee.{Float}
 use lib.ListN.{length}
-use Rattle.scope.specs.Lists.{holding}
 use Rattle.control.specs.Settings.{shortestOf}
 use Rattle.scope.specs.Grid.{Record}
-use Rattle.scope.specs.Layers.{Segment, one}
+use Rattle.scope.specs.Layers.{StoredSegment, one}
 use Rattle.scope.specs.Tree.{Run, direct, choice, verdict, storedRecords, parted, grow, grown, treeOf, recordsOf, nodes, nodeCount, sheet, mostNodes}
-use Rattle.stored.specs.Flat.{flatRows, gainsOf, recordsIn, Put}
-use Rattle.stored.proofs.Flat.{sets-holding, put-more, put-told, told-put}
+use Rattle.stored.specs.Flat.{Put, Standing}
+use Rattle.stored.proofs.Flat.{sets-holding, put-more, put-told, standing-read}
 use Rattle.verdict.specs.declared.Asked.{Asked}
 use Rattle.verdict.specs.Rules.{runOver, over}
 use Rattle.binary_segmentation.specs.declared.tree.Counts.{Counts}
 use Rattle.node.specs.Nodes.{toNode}
 use Rattle.binary_segmentation.specs.Growth.{Lent, stored, Written, Growing, Sound, Fits, Ready, Holds, Segmented}
-use Rattle.demand.proofs.Records.{segments-are}
+use Rattle.demand.proofs.Records.{labelled-found, segments-are}
 use Rattle.demand.proofs.Demand.{demand}
-use Rattle.binary_segmentation.proofs.Growth.{direct-sound, made-few, nodes-long}
-
--- ---- the stored records stand where they are read
-records-long : (rows : List ℕ) (gains : List Float) (k : ℕ) → length (recordsIn rows gains k) ≡ k
-unfolding recordsIn
-records-long rows gains zero = refl
-records-long rows gains (suc k) = ap suc (records-long _ _ k)
-
-records-stand : (k : ℕ) (rows : List ℕ) (gains : List Float) → 3 * k ≤ length rows → k ≤ length gains → (rows ≡ holding (flatRows (recordsIn rows gains k)) rows) × (gains ≡ holding (gainsOf (recordsIn rows gains k)) gains)
-unfolding recordsIn
-records-stand zero rows gains h g = (refl, refl)
-records-stand (suc k) [] gains h g = absurd (omega arith)
-records-stand (suc k) (a ∷ []) gains h g = absurd (omega arith)
-records-stand (suc k) (a ∷ b ∷ []) gains h g = absurd (omega arith)
-records-stand (suc k) (a ∷ b ∷ c ∷ rows) [] h g = absurd (omega arith)
-records-stand (suc k) (a ∷ b ∷ c ∷ rows) (x ∷ gains) h g =
-    let (p, q) = records-stand k rows gains (omega arith) (omega arith) in
-    (ap (λ (l : List ℕ). a ∷ b ∷ c ∷ l) p, ap (λ (l : List Float). x ∷ l) q)
-
-records-put : (k : ℕ) (rows : List ℕ) (gains : List Float) → 3 * k ≤ length rows → k ≤ length gains → Put (recordsIn rows gains k) 0 rows gains rows gains k
-records-put k rows gains h g =
-    let (p, q) = records-stand k rows gains h g in
-    let e = records-long rows gains k in
-    let w = told-put {rs = recordsIn rows gains k} (omega (arith, e)) (omega (arith, e)) p q in
-    record { rows-hold = w .rows-hold; gains-hold = w .gains-hold; told = omega (arith, e) }
+use Rattle.binary_segmentation.proofs.Growth.{found-sound, made-few, nodes-long}
 
 module _ (sums : List Float) (forbidden : List ℕ) (s : Asked) (n count : ℕ) (l : Lent) (ready : Ready sums forbidden s n count l) where
   abbrev before : Counts
   before = record { nodes = 0; records = count; cuts = 0 }
 
-  -- of each run whose stored segments have these records
-  module _ (segments : List Segment) (stand : storedRecords (runOver sums forbidden s n segments) ≡ stored l count) where
+  -- of each run whose stored segments' records stand
+  module _ (segments : List StoredSegment) (stand : Standing (storedRecords (runOver sums forbidden s n segments)) (l .rows) (l .gains) count) where
     abbrev q : Run
     q = runOver sums forbidden s n segments
+
+    read : stored l count ≡ storedRecords q
+    read = standing-read (omega (arith, ready .room-rows)) (omega (arith, ready .room-gains)) stand
 
     -- neither n nor the stored segments are read while it is grown
     same-growth : (k : ℕ) (rs : List Record) (start stop : ℕ) → grow (over sums forbidden s) k rs start stop ≡ grow q k rs start stop
@@ -63,7 +41,7 @@ module _ (sums : List Float) (forbidden : List ℕ) (s : Asked) (n count : ℕ) 
 
     whole : grow (over sums forbidden s) n (stored l count) 0 n ≡ grown q
     unfolding grown
-    whole = rw (← stand) (same-growth n (storedRecords q) 0 n)
+    whole = rw read (same-growth n (storedRecords q) 0 n)
 
     few : nodeCount (treeOf q) ≤ mostNodes n (shortestOf (s .settings .shortest))
     few = demand q (ready .least) (ready .nonempty) .few-nodes
@@ -76,13 +54,13 @@ module _ (sums : List Float) (forbidden : List ℕ) (s : Asked) (n count : ℕ) 
     few-made = made-few q n (storedRecords q) 0 n
 
     stored-sound : Sound (shortestOf (s .settings .shortest)) (storedRecords q)
-    stored-sound r i = let f = segments-are q r i in direct-sound q (f .segment .start) (f .segment .stop) r (f .found)
+    stored-sound r i = let f = segments-are q r i in let g = f .segment in found-sound q (g .start) (g .stop) r (labelled-found q (g .start) (g .stop) (g .origin) r (f .found))
 
     fits : Fits (over sums forbidden s) 0 n before l
     fits = record {
       least = ready .least;
       nonempty = ready .nonempty;
-      sound = rw (← stand) stored-sound;
+      sound = rw read stored-sound;
       fuel = n;
       enough = omega arith;
       room-rows = rw whole (omega (arith, few, ready .room-rows));
@@ -98,9 +76,9 @@ module _ (sums : List Float) (forbidden : List ℕ) (s : Asked) (n count : ℕ) 
       -- the stored segments' records, then those that are made
       put : Put (recordsOf q) 0 (l .rows) (l .gains) (l′ .rows) (l′ .gains) (next .records)
       unfolding recordsOf
-      put = put-more (rw (← stand) at (records-put count (l .rows) (l .gains) (omega (arith, ready .room-rows)) (omega (arith, ready .room-gains)))) (written .records)
+      put = put-more stand (written .records)
 
-      room : (3 * next .records ≤ length (l .rows)) × (next .records ≤ length (l .gains))
+      room : (5 * next .records ≤ length (l .rows)) × (next .records ≤ length (l .gains))
       room = let e = written .records .told in (omega (arith, e, few-made, few, ready .room-rows), omega (arith, e, few-made, few, ready .room-gains))
 
       holds : Holds q l l′ next

@@ -9,11 +9,11 @@ use lib.Seq.{sets}
 use Rattle.scope.specs.Lists.{_∈_, holding}
 use Rattle.scope.specs.Asked.{Shortest}
 use Rattle.scope.specs.Grid.{Record}
-use Rattle.scope.specs.Layers.{Segment, one}
+use Rattle.scope.specs.Layers.{StoredSegment, one}
 use Rattle.scope.specs.Tree.{Run, direct, storedRecords, Verdict, uncut, cut, verdict, Grown, grow, treeOf, recordsOf, nodes, nodeCount, sheet, mostNodes}
 use Rattle.control.specs.Settings.{shortestOf}
 use Rattle.optimizer.specs.Records.{fromRecord}
-use Rattle.stored.specs.Flat.{flatRows, gainsOf, recordsIn, Put}
+use Rattle.stored.specs.Flat.{flatRows, gainsOf, recordsIn, Put, Standing}
 use Rattle.node.specs.declared.Node.{Node as NodeStruct}
 use Rattle.verdict.specs.declared.Asked.{Asked}
 use Rattle.verdict.specs.Rules.{runOver}
@@ -73,7 +73,7 @@ pub record Fits (q : Run) (start stop : ℕ) (at : Counts) (l : Lent) : Type 0 w
   pub sound : Sound (q .shortest) (stored l (at .records))
   pub fuel : ℕ
   pub enough : stop - start ≤ fuel
-  pub room-rows : 3 * (at .records + nodeCount (grow q fuel (stored l (at .records)) start stop .tree)) ≤ length (l .rows)
+  pub room-rows : 5 * (at .records + nodeCount (grow q fuel (stored l (at .records)) start stop .tree)) ≤ length (l .rows)
   pub room-gains : at .records + nodeCount (grow q fuel (stored l (at .records)) start stop .tree) ≤ length (l .gains)
   pub room-nodes : at .nodes + nodeCount (grow q fuel (stored l (at .records)) start stop .tree) ≤ length (l .nodes)
   pub room-cuts : at .cuts + length (sheet (grow q fuel (stored l (at .records)) start stop .tree)) ≤ length (l .cuts)
@@ -83,9 +83,9 @@ pub record Fits (q : Run) (start stop : ℕ) (at : Counts) (l : Lent) : Type 0 w
 pub record Ready (sums : List Float) (forbidden : List ℕ) (s : Asked) (n count : ℕ) (l : Lent) : Type 0 where
   pub least : 1 ≤ s .settings .shortest .m
   pub nonempty : 1 ≤ n
-  pub segments : List Segment
-  pub stand : storedRecords (runOver sums forbidden s n segments) ≡ stored l count
-  pub room-rows : 3 * (count + mostNodes n (shortestOf (s .settings .shortest))) ≤ length (l .rows)
+  pub segments : List StoredSegment
+  pub stand : Standing (storedRecords (runOver sums forbidden s n segments)) (l .rows) (l .gains) count
+  pub room-rows : 5 * (count + mostNodes n (shortestOf (s .settings .shortest))) ≤ length (l .rows)
   pub room-gains : count + mostNodes n (shortestOf (s .settings .shortest)) ≤ length (l .gains)
   pub room-nodes : mostNodes n (shortestOf (s .settings .shortest)) ≤ length (l .nodes)
   pub room-cuts : (mostNodes n (shortestOf (s .settings .shortest)) - 1) / 2 ≤ length (l .cuts)
@@ -100,4 +100,4 @@ pub record Holds (q : Run) (l l′ : Lent) (next : Counts) : Type 0 where
 
 -- of each run whose stored segments have these records
 pub record Segmented (sums : List Float) (forbidden : List ℕ) (s : Asked) (n count : ℕ) (l l′ : Lent) (next : Counts) : Type 0 where
-  pub by : (segments : List Segment) → storedRecords (runOver sums forbidden s n segments) ≡ stored l count → Holds (runOver sums forbidden s n segments) l l′ next
+  pub by : (segments : List StoredSegment) → Standing (storedRecords (runOver sums forbidden s n segments)) (l .rows) (l .gains) count → Holds (runOver sums forbidden s n segments) l l′ next

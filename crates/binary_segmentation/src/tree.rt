@@ -50,7 +50,7 @@ fn judge(
     gains: &mut [f64],
     counts: Counts,
 ) -> Judged
-    requires { ⌜ (start .0 ≤ stop .0) × Sized asked (stop .0) (length (now sums)) × (counts .nodes + 1 < 2 ^ 64) × (counts .records + 1 < 2 ^ 64) × (3 * counts .records + 3 ≤ length (now rows)) × (counts .records < length (now gains)) ⌝ }
+    requires { ⌜ (start .0 ≤ stop .0) × Sized asked (stop .0) (length (now sums)) × (counts .nodes + 1 < 2 ^ 64) × (counts .records + 1 < 2 ^ 64) × (5 * counts .records + 5 ≤ length (now rows)) × (counts .records < length (now gains)) ⌝ }
     ensures { λ r. ⌜ Judging (over (now (sums .entry)) (now (forbidden .entry)) asked) (start .0) (stop .0) counts (now (rows .entry)) (now (gains .entry)) (now (rows .exit)) (now (gains .exit)) r ⌝ }
 {
     let at = counts.records;

@@ -1,9 +1,9 @@
 -- What an enum's case tells of the definition's answer: a value was given, or the number. Assumes nothing.
 use mathlib.Core.Path.{_≡_, sym, _∙_, ap}
-use Prim.Native.Nat.{ℕ}
+use Prim.Native.Nat.{ℕ, zero, suc}
 use lib.Ieee.{Float}
-use Rattle.scope.specs.Refusals.{Answer, refused, given}
-use Rattle.scope.specs.Calls.{Tested}
+use Rattle.scope.specs.Refusals.{Answer, refused, given, unless, toldUnless}
+use Rattle.scope.specs.Calls.{Tested, runOf}
 use Rattle.scope.specs.Why as scope
 use Rattle.scope.proofs.Never.{never}
 use Rattle.reasons.specs.declared.Why.{Why}
@@ -59,13 +59,25 @@ permuted-refused (refused j) k e = let w : j ≡ k = cc in ap refused w
 permuted-refused (given s) k e = never (cc)
 
 -- ---- what is told of a row
-pub why-given : (a : Answer scope.Why) (w : Why) → explained.Why w ≡ explainedOf a → a ≡ given (toWhy w)
-why-given (refused k) w e = never (cc)
-why-given (given v) w e = let is : w ≡ fromWhy v = cc in ap given (sym (ap toWhy is ∙ to-from v))
+pub why-given : (a : Answer scope.Why) (l : ℕ) (w : Why) (long : ℕ) → explained.Why w long ≡ explainedOf a l → (a ≡ given (toWhy w)) × (long ≡ l)
+why-given (refused k) l w long e = never (cc)
+why-given (given v) l w long e = let is : w ≡ fromWhy v = cc in (ap given (sym (ap toWhy is ∙ to-from v)), (cc))
 
-pub why-refused : (a : Answer scope.Why) (k : ℕ) → explained.Refused k ≡ explainedOf a → a ≡ refused k
-why-refused (refused j) k e = let w : j ≡ k = cc in ap refused w
-why-refused (given v) k e = never (cc)
+pub why-refused : (a : Answer scope.Why) (l k : ℕ) → explained.Refused k ≡ explainedOf a l → a ≡ refused k
+why-refused (refused j) l k e = let w : j ≡ k = cc in ap refused w
+why-refused (given v) l k e = never (cc)
+
+-- with its text
+pub text-told : (a : scope.WhyAsked) (w : scope.Why) → scope.whyCall a .answer ≡ given w → scope.whyCall a .text ≡ scope.textOf w
+unfolding scope.whyCall
+text-told a w e = go (scope.whyRefusal a) e
+  where
+    v : scope.Why
+    v = scope.whyOf (runOf (a .matrix) (a .settings)) (a .row)
+
+    go : (no : ℕ) → unless no v ≡ given w → toldUnless no (scope.textOf v) ≡ scope.textOf w
+    go zero e = let is : v ≡ w = cc in ap scope.textOf is
+    go (suc k) e = never (cc)
 
 -- one answer is given
 pub given-one : (a : Answer scope.Why) (v w : scope.Why) → a ≡ given v → a ≡ given w → v ≡ w

@@ -18,7 +18,7 @@ use Rattle.prepared.specs.Answers.{treeAsked}
 use Rattle.entry_segments.specs.Left.{storedTold}
 use Rattle.entry_tree.specs.Left.{Slices, recordSlices}
 use Rattle.entry_why.specs.Left.{whyTold}
-use Rattle.told.specs.Told.{numberOf, valueOr, splitOr, gainOr, entryOr, lengthOr, counterOr, pOr, significantOr, toldOr, reasonNumber, segmentOf, firstOr, secondOr, notAboveOr}
+use Rattle.told.specs.Told.{numberOf, valueOr, splitOr, gainOr, entryOr, lengthOr, counterOr, pOr, significantOr, toldOr, reasonNumber, segmentOf, kindOr, originNumberOr, textLengthOr, firstOr, secondOr, notAboveOr}
 
 -- the minimal length
 pub record LengthStored (relative : Float) (n r m₀ m₁ : ℕ) : Type 0 where
@@ -68,21 +68,28 @@ pub record WhyPlaces : Type 0 where
   pub reason : ℕ
   pub start : ℕ
   pub stop : ℕ
+  pub kind : ℕ
+  pub number : ℕ
+  pub length : ℕ
   pub a : ℕ
   pub b : ℕ
   pub gain : Float
 
--- what is told of a row, the stored segments' records and the prefix sums; and of a row that is not refused, that what is told is so
-pub record WhyStored (x : Matrix) (s : Settings) (row r : ℕ) (before after : RecordSlices) (places₀ places₁ : WhyPlaces) : Type 0 where
-  pub number : r ≡ numberOf (whyTold x s row before .answer)
-  pub held : Held (whyTold x s row before .sums) (whyTold x s row before .records) before after
-  pub reason : places₁ .reason ≡ toldOr (λ w k. reasonNumber w) (whyTold x s row before .answer) (places₀ .reason)
-  pub start : places₁ .start ≡ toldOr (λ w k. segmentOf w .start) (whyTold x s row before .answer) (places₀ .start)
-  pub stop : places₁ .stop ≡ toldOr (λ w k. segmentOf w .stop) (whyTold x s row before .answer) (places₀ .stop)
-  pub a : places₁ .a ≡ toldOr firstOr (whyTold x s row before .answer) (places₀ .a)
-  pub b : places₁ .b ≡ toldOr secondOr (whyTold x s row before .answer) (places₀ .b)
-  pub gain : places₁ .gain ≡ toldOr notAboveOr (whyTold x s row before .answer) (places₀ .gain)
-  pub because : (w : Why) → whyTold x s row before .answer ≡ given w → Because (runOf x s) row w
+-- what is told of a row, the stored segments' records, the prefix sums and the text; and of a row that is not refused, that what is told is so
+pub record WhyStored (x : Matrix) (s : Settings) (row r : ℕ) (before after : RecordSlices) (text₀ text₁ : List ℕ) (places₀ places₁ : WhyPlaces) : Type 0 where
+  pub number : r ≡ numberOf (whyTold x s row before text₀ .answer)
+  pub held : Held (whyTold x s row before text₀ .sums) (whyTold x s row before text₀ .records) before after
+  pub reason : places₁ .reason ≡ toldOr (λ w k. reasonNumber w) (whyTold x s row before text₀ .answer) (places₀ .reason)
+  pub start : places₁ .start ≡ toldOr (λ w k. segmentOf w .start) (whyTold x s row before text₀ .answer) (places₀ .start)
+  pub stop : places₁ .stop ≡ toldOr (λ w k. segmentOf w .stop) (whyTold x s row before text₀ .answer) (places₀ .stop)
+  pub text : text₁ ≡ holding (whyTold x s row before text₀ .text) text₀
+  pub kind : places₁ .kind ≡ toldOr kindOr (whyTold x s row before text₀ .answer) (places₀ .kind)
+  pub origin-number : places₁ .number ≡ toldOr originNumberOr (whyTold x s row before text₀ .answer) (places₀ .number)
+  pub length : places₁ .length ≡ toldOr textLengthOr (whyTold x s row before text₀ .answer) (places₀ .length)
+  pub a : places₁ .a ≡ toldOr firstOr (whyTold x s row before text₀ .answer) (places₀ .a)
+  pub b : places₁ .b ≡ toldOr secondOr (whyTold x s row before text₀ .answer) (places₀ .b)
+  pub gain : places₁ .gain ≡ toldOr notAboveOr (whyTold x s row before text₀ .answer) (places₀ .gain)
+  pub because : (w : Why) → whyTold x s row before text₀ .answer ≡ given w → Because (runOf x s) row w
 
 -- the pick and its gain
 pub record PickStored (a : PickAsked) (r split₀ split₁ : ℕ) (gain₀ gain₁ : Float) : Type 0 where

@@ -3,8 +3,8 @@ use control::Shortest;
 use entry_mean::Count;
 ghost use Rattle.changeforest_c.specs.Stored.{SegmentsStored};
 
-// The records of the stored segments, of layers or of draws, and how many: start, stop and best split of each into rows, its gain into gains;
-// sums takes the prefix sums. Of draws at most w are stored.
+// The records of the stored segments, of layers or of draws, and how many: start, stop, best split and the origin's kind and number of each into rows, its gain
+// into gains; sums takes the prefix sums. Of draws at most w are stored.
 #[no_mangle]
 pub extern "C" fn changeforest_stored_segments(
     cells: &[f64],

@@ -4,8 +4,8 @@ use control::Shortest;
 use node::Node;
 ghost use Rattle.changeforest_c.specs.Stored.{TreeStored};
 
-// The tree of the run: its nodes in preorder into nodes, its cuts into cuts; start, stop and best split of each record into rows, its gain
-// into gains, those of the stored segments first, which come from layers or from draws; sums takes the prefix sums. How many nodes, records
+// The tree of the run: its nodes in preorder into nodes, its cuts into cuts; start, stop, best split and the origin's kind and number of each
+// record into rows, its gain into gains, those of the stored segments first, which come from layers or from draws; sums takes the prefix sums. How many nodes, records
 // and cuts there are, and how many stored records, goes into counts, which has four entries or is refused.
 #[no_mangle]
 pub extern "C" fn changeforest_tree(

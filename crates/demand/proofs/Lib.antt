@@ -15,4 +15,5 @@ pub mod Zero
 pub mod Demand
 pub mod Place
 pub mod Because
+pub mod Origins
 pub mod ClosedEnd

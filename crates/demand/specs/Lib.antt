@@ -8,5 +8,6 @@ pub mod AllZero
 pub mod Levels
 pub mod Demand
 pub mod Because
+pub mod Origins
 pub mod ClosedEnd
 pub mod Printed

@@ -5,8 +5,8 @@ use entry_mean::Count;
 ghost use Rattle.control.specs.Settings.{shortestOf};
 ghost use Rattle.entry_segments.specs.Left.{StoredLeft};
 
-// The records of the stored segments, in order: start, stop and best split of each into `rows`, its gain into `gains`. The segments are the
-// seeded ones of all layers, whose values are the Rust's alpha_k, or the draws, start and stop of each in turn, until w records stand. A
+// The records of the stored segments, in order: start, stop, best split and the origin's kind and number of each into `rows`, its gain into `gains`. The
+// segments are the seeded ones of all layers, whose values are the Rust's alpha_k, or the draws, start and stop of each in turn, until w records stand. A
 // segment without a candidate leaves no record. The prefix sums are left in `sums`.
 pub fn stored_segments(
     cells: &[f64],

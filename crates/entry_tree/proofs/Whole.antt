@@ -119,7 +119,7 @@ module _ (x : Matrix) (s : Settings) (forbidden : List ℕ) (source : Source) (b
       least = clean .run .lengths .0;
       nonempty = clean .run .sums-fit .shape .rows .0;
       segments = segments x s forbidden source;
-      stand = standing .records;
+      stand = standing .standing;
       room-rows = omega (arith, standing .few, clean .records-fit, same-rows);
       room-gains = omega (arith, standing .few, clean .records-fit, same-gains);
       room-nodes = omega (arith, clean .nodes-fit);
@@ -129,7 +129,7 @@ module _ (x : Matrix) (s : Settings) (forbidden : List ℕ) (source : Source) (b
     pub grown-told : (l : Lent) (next : Counts) → Segmented (take len (front .sums)) forbidden shared (x .n) count lentOf l next → TreeLeft x settings (Counted next count) before (after l)
     unfolding treeCall recordsOf
     grown-told l next segmented =
-        let h : Holds q lentOf l next = rw (standing .part) at (segmented .by (segments x s forbidden source) (standing .records)) in
+        let h : Holds q lentOf l next = rw (standing .part) at (segmented .by (segments x s forbidden source) (standing .standing)) in
         let made = grown q .made in
         record {
           answer = rw (h .counts, told .2) (ap grownOf (answer-given (told .0) refl (countsOf q)));

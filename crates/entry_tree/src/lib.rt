@@ -16,8 +16,8 @@ pub enum Grown {
     Refused(u32),
 }
 
-// The tree of the run: its nodes in preorder into `nodes`, its cuts from left to right into `cuts`; start, stop and best split of each record into `rows`,
-// its gain into `gains`, those of the stored segments first, which come from the layers or from the draws. The prefix sums are left in `sums`.
+// The tree of the run: its nodes in preorder into `nodes`, its cuts from left to right into `cuts`; start, stop, best split and the origin's kind and number of
+// each record into `rows`, its gain into `gains`, those of the stored segments first, which come from the layers or from the draws. The prefix sums are left in `sums`.
 pub fn binary_segmentation(
     cells: &[f64],
     n: usize,

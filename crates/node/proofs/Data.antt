@@ -28,5 +28,5 @@ pub position-fits : (n : ℕ) → Fit word n → Fit position (record { 0 = n })
 position-fits n is = LL.owes position′.the-type position″.the-laws (record { 0 = n }) (is, tt)
 
 -- a place in a slice of nodes, in bytes
-pub byte-fits : {i l : ℕ} → l * 72 < 2 ^ 63 → i < l → i * 72 < 2 ^ 64
+pub byte-fits : {i l : ℕ} → l * 88 < 2 ^ 63 → i < l → i * 88 < 2 ^ 64
 byte-fits room within = omega arith

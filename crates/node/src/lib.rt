@@ -6,7 +6,18 @@ ghost use mathlib.Core.Option.{none, some};
 ghost use Prim.Native.Nat.{_<_};
 ghost use lib.ListN.{length, getD, set};
 ghost use Rattle.optimizer.specs.Records.{toRecord};
-ghost use Rattle.node.specs.Nodes.{toNode, leafOf, cutOf};
+ghost use Rattle.node.specs.Nodes.{inNumbers, toNode, leafOf, cutOf};
+
+// A gain record in plain numbers: its origin by kind, 0 direct, 1 layer, 2 draw, and number.
+#[repr(C)]
+pub struct Choice {
+    pub start: Position,
+    pub stop: Position,
+    pub best_split: Position,
+    pub max_gain: f64,
+    pub kind: usize,
+    pub number: usize,
+}
 
 // A segment, whether it is cut, its choice (all zero where there is none), and the places of its parts (0 and 0 for a leaf).
 #[repr(C)]
@@ -15,9 +26,29 @@ pub struct Node {
     pub stop: Position,
     pub significant: bool,
     pub has_choice: bool,
-    pub choice: GainRecord,
+    pub choice: Choice,
     pub left: usize,
     pub right: usize,
+}
+
+impl Choice {
+    // The numbers of a record.
+    pub fn of(found: GainRecord) -> Choice
+        ensures { λ r. ⌜ r ≡ inNumbers (toRecord found) ⌝ }
+    {
+        let start = found.start;
+        let stop = found.stop;
+        let split = found.best_split;
+        let origin = found.origin;
+        Choice {
+            start,
+            stop,
+            best_split: split,
+            max_gain: found.max_gain,
+            kind: origin.kind(),
+            number: origin.number(),
+        }
+    }
 }
 
 impl Node {
@@ -25,11 +56,13 @@ impl Node {
     pub fn without_choice(start: Position, stop: Position) -> Node
         ensures { λ r. ⌜ r ≡ toNode (leafOf (start .0) (stop .0) none) ⌝ }
     {
-        let choice = GainRecord {
+        let choice = Choice {
             start: Position(0),
             stop: Position(0),
             best_split: Position(0),
             max_gain: 0.0,
+            kind: 0,
+            number: 0,
         };
         Node {
             start,
@@ -51,7 +84,7 @@ impl Node {
             stop,
             significant: false,
             has_choice: true,
-            choice,
+            choice: Choice::of(choice),
             left: 0,
             right: 0,
         }
@@ -72,7 +105,7 @@ impl Node {
             stop,
             significant: true,
             has_choice: true,
-            choice,
+            choice: Choice::of(choice),
             left,
             right,
         }

@@ -8,7 +8,7 @@ use lib.ListN.{length, take}
 use Rattle.scope.specs.Asked.{Matrix, Source}
 use Rattle.scope.specs.Asked as asked
 use Rattle.scope.specs.Sums.{prefixSums}
-use Rattle.scope.specs.Layers.{Segment}
+use Rattle.scope.specs.Layers.{StoredSegment}
 use Rattle.scope.specs.Draws.{mostStored}
 use Rattle.scope.specs.Tree.{Run, direct, storedRecords}
 use Rattle.scope.specs.Calls.{sumsOf, sumsRoom, segmentsOf, runOf}
@@ -17,8 +17,8 @@ use Rattle.scope.proofs.Draws.{records-few}
 use Rattle.control.specs.Settings.{settingsOf}
 use Rattle.control.specs.declared.Settings.{Settings}
 use Rattle.change_in_mean.proofs.Room.{SumsClean, sums-are, sums-part}
-use Rattle.stored.specs.Flat.{recordsIn}
-use Rattle.stored.proofs.Flat.{records-told}
+use Rattle.stored.specs.Flat.{recordsIn, Standing}
+use Rattle.stored.proofs.Flat.{records-told, told-stands}
 use Rattle.verdict.specs.declared.Asked.{Asked}
 use Rattle.verdict.specs.Rules.{runOver, Sized}
 use Rattle.segmentation.specs.Segments.{Slices, Held}
@@ -34,7 +34,7 @@ module _ (x : Matrix) (s : Settings) (forbidden : List ℕ) (source : Source) wh
   abbrev shared : Asked
   shared = record { d = x .d; settings = s }
 
-  abbrev pub segments : List Segment
+  abbrev pub segments : List StoredSegment
   segments = segmentsOf x (settings .shortest) forbidden source
 
   -- `len` sums and `count` records stand in the slices `front`
@@ -45,6 +45,7 @@ module _ (x : Matrix) (s : Settings) (forbidden : List ℕ) (source : Source) wh
     pub sized : settings .shortest .m ≤ 4096 → Sized shared (x .n) (length (take len (front .sums)))
     -- the records, of which there is one at most for each stored segment
     pub records : storedRecords (runOver (take len (front .sums)) forbidden shared (x .n) segments) ≡ recordsIn (front .rows) (front .gains) count
+    pub standing : Standing (storedRecords (runOver (take len (front .sums)) forbidden shared (x .n) segments)) (front .rows) (front .gains) count
     pub few : count ≤ mostStored source
 
   module _ (before front : Slices) (clean : SumsClean x (length (before .sums))) (held : Held (sumsOf x) (storedRecords q) before front)
@@ -64,5 +65,6 @@ module _ (x : Matrix) (s : Settings) (forbidden : List ℕ) (source : Source) wh
           part-long = part-long;
           sized = λ most. (most, clean .shape .rows .1, omega (arith, part-long, len-is));
           records = rw (part, count-is, held .rows-are, held .gains-are) (sym (records-told (storedRecords q) _ _));
+          standing = rw (part, count-is) (told-stands (before .rows) (before .gains) (held .rows-are) (held .gains-are));
           few = omega (arith, count-is, records-few (direct q) (x .n) source);
         }

@@ -1,18 +1,21 @@
 -- Texts written one after another, and the digits of a number. Assumes nothing.
 use mathlib.Core.Path.{_≡_, refl, sym, _∙_, ap}
+use mathlib.Core.Bool.{Bool, true, false, cond}
 use mathlib.Core.List.{List, [], _∷_, _++_, append-assoc}
 use Prim.Native.Nat.{ℕ, zero, suc, _+_, _-_, _*_, _/_, _%_, _^_, _≤_, _<_}
 use native.Mathlib.Nat.{pow-suc, pow-le-pow-right}
 use native.Mathlib.Numerals.{add-one}
 use native.Mathlib.Decide.{decLe}
 use native.Mathlib.Omega.{arith}
+use lib.Dec.{ltb}
 use lib.ListN.{length, getD, set, take, drop, length-append, drop-of-length-le}
 use lib.Seq.{sets, length-sets, sets-eq, drop-cons, take-at}
 use borrow.Author.Tests.{lt-ltb, le-ltb}
 use Rattle.io.specs.Digits.{digits, Fewest}
 use Rattle.rows.proofs.Stored.{sets-append}
 use Rattle.scope.specs.Lists.{holding}
-use Rattle.scope.specs.Text.{decimalOf, decimal, hexOf}
+use Rattle.scope.specs.Text.{bytes, digit, decimalOf, decimal, hexOf}
+use Rattle.scope.specs.Origin.{Origin, direct, layer, draw, originText}
 use Rattle.report.specs.Written.{Written}
 
 -- one text after another
@@ -76,13 +79,32 @@ fewest-most b least top k n h l p f = go (decLe k top)
         let r : b ^ top ≤ b ^ (k - 1) = pow-le-pow-right h {i = top} {j = k - 1} (omega arith) in
         absurd (omega (arith, f .2 (omega arith)))
 
-pub decimal-most : (k n : ℕ) → Fewest 10 1 n k → n < 2 ^ 64 → k ≤ 20
-decimal-most k n f h = fewest-most 10 1 20 k n (omega arith) (omega arith) (omega arith) f
-
 pub hex-most : (k n : ℕ) → Fewest 16 16 n k → n < 2 ^ 64 → k ≡ 16
 hex-most k n f h = omega (arith, f .0, fewest-most 16 16 16 k n (omega arith) (omega arith) (omega arith) f)
 
 -- the fewest digits that hold n
-pub decimal-fewest : (k n : ℕ) → Fewest 10 1 n k → k ≤ 20 → digits 10 k n ≡ decimal n
+pub decimal-fewest : (k n : ℕ) → Fewest 10 1 n k → n < 2 ^ 64 → digits 10 k n ≡ decimal n
 decimal-fewest zero n f h = absurd (omega (arith, f .0))
-decimal-fewest (suc k) n f h = let e : suc k - 1 ≡ k = omega arith in decimal-digits k 20 n (omega arith) (f .1) (λ z. rw e at (f .2 (omega arith)))
+decimal-fewest (suc k) n f h =
+    let most : suc k ≤ 20 = fewest-most 10 1 20 (suc k) n (omega arith) (omega arith) (omega arith) f in
+    let e : suc k - 1 ≡ k = omega arith in
+    decimal-digits k 20 n (omega arith) (f .1) (λ z. rw e at (f .2 (omega arith)))
+
+-- ---- the most bytes of a number, and of an origin
+decimal-of-most : (k n : ℕ) → length (decimalOf k n) ≤ k
+unfolding decimalOf
+decimal-of-most zero n = omega arith
+decimal-of-most (suc k) n = go (ltb n 10) (decimal-of-most k (n / 10))
+  where
+    go : (b : Bool) → length (decimalOf k (n / 10)) ≤ k → length (cond b (digit n ∷ []) (decimalOf k (n / 10) ++ (digit (n % 10) ∷ []))) ≤ suc k
+    go true h = omega arith
+    go false h = rw length-append (omega arith)
+
+pub decimal-most : (n : ℕ) → length (decimal n) ≤ 20
+decimal-most n = decimal-of-most 20 n
+
+pub origin-most : (o : Origin) → length (originText o) ≤ 26
+unfolding originText bytes
+origin-most direct = omega arith
+origin-most (layer k) = omega (arith, decimal-most k)
+origin-most (draw k) = omega (arith, decimal-most k)

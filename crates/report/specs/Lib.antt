@@ -1,2 +1,3 @@
 -- The definitions that the contracts of `report` cite.
+pub mod Fields
 pub mod Written

@@ -14,6 +14,8 @@ pub mod Stored
 pub mod Draws
 pub mod Chosen
 pub mod Why
+pub mod Before
+pub mod Origins
 pub mod Signs
 pub mod Finite
 pub mod Negated

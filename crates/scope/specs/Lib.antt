@@ -23,6 +23,8 @@ pub mod Permutations
 pub mod Sorted
 pub mod Calls
 pub mod Why
+pub mod Before
+pub mod Origins
 pub mod Numbers
 pub mod Program
 pub mod WhyText

@@ -5,20 +5,28 @@ use Prim.Native.Nat.{ℕ, zero, suc, _+_, _*_, _≤_}
 use native.Mathlib.Nat.{zero-add, suc-add}
 use native.Mathlib.Omega.{arith}
 use lib.Ieee.{Float}
-use lib.ListN.{length, set, length-append}
+use lib.ListN.{length, set, drop, length-append}
 use lib.Seq.{sets, sets-eq, length-sets}
 use Rattle.rows.proofs.Stored.{sets-append}
 use Rattle.scope.specs.Lists.{holding}
 use Rattle.scope.specs.Origin.{originOf}
 use Rattle.scope.specs.Grid.{Record}
 use Rattle.optimizer.proofs.Origins.{numbers-back}
-use Rattle.stored.specs.Flat.{flatRows, gainsOf, recordsIn, Put}
+use Rattle.stored.specs.Flat.{flatRows, gainsOf, recordsIn, Put, Standing}
 
 -- ---- runs of stores
 module _ {A : Type 0} where
   -- a run from the start on
   pub sets-holding : (l vs : List A) → length vs ≤ length l → sets l 0 vs ≡ holding vs l
   sets-holding l vs h = sets-eq vs l 0 (omega arith) ∙ rw zero-add
+
+  -- told again
+  pub holding-again : (told before : List A) → holding told (holding told before) ≡ holding told before
+  holding-again told before = ap (λ (l : List A). told ++ l) (past told (drop (length told) before))
+    where
+      past : (xs ys : List A) → drop (length xs) (xs ++ ys) ≡ ys
+      past [] ys = refl
+      past (x ∷ xs) ys = past xs ys
 
   -- past the first entry
   sets-suc : (x : A) (l : List A) (p : ℕ) (vs : List A) → sets (x ∷ l) (suc p) vs ≡ x ∷ sets l p vs
@@ -104,3 +112,15 @@ module _ {rs : List Record} {rows rows′ : List ℕ} {gains gains′ : List Flo
     gains-hold = q ∙ sym (sets-holding gains (gainsOf rs) (omega (arith, length-gains rs)));
     told = omega arith;
   }
+
+-- ---- records that stand are read, and what was told stands
+module _ {rs : List Record} {rows : List ℕ} {gains : List Float} where
+  pub standing-read : {count : ℕ} → 5 * count ≤ length rows → count ≤ length gains → Standing rs rows gains count → recordsIn rows gains count ≡ rs
+  unfolding recordsIn
+  standing-read h k s = put-read h k s
+
+  pub told-stands : (rows₀ : List ℕ) (gains₀ : List Float) → rows ≡ holding (flatRows rs) rows₀ → gains ≡ holding (gainsOf rs) gains₀ → Standing rs rows gains (length rs)
+  told-stands rows₀ gains₀ p q =
+      told-put (omega (arith, ap length p, length-append (flatRows rs) (drop (length (flatRows rs)) rows₀), length-rows rs))
+      (omega (arith, ap length q, length-append (gainsOf rs) (drop (length (gainsOf rs)) gains₀), length-gains rs))
+      (rw p (sym (holding-again (flatRows rs) rows₀))) (rw q (sym (holding-again (gainsOf rs) gains₀)))

@@ -40,6 +40,10 @@ pub record Put (rs : List Record) (at : ℕ) (rows : List ℕ) (gains : List Flo
   pub gains-hold : gains′ ≡ sets gains at (gainsOf rs)
   pub told : next ≡ at + length rs
 
+-- the records rs stand at the front, and there are `count` of them: to store them again changes nothing
+abbrev pub Standing : List Record → List ℕ → List Float → ℕ → Type 0
+Standing rs rows gains count = Put rs 0 rows gains rows gains count
+
 -- a record lies inside [start, stop): the test of `inside`
 abbrev pub liesInside : ℕ → ℕ → Record → Bool
 liesInside start stop r = leb start (r .start) && leb (r .stop) stop

@@ -7,6 +7,7 @@ use lib.Dec.{ltb}
 use lib.Ieee.{Float}
 use lib.ListN.{length, getD, set}
 use Rattle.scope.specs.Refusals.{Answer, refused, given}
+use Rattle.scope.specs.Origin.{kindOf, numberOf as originNumber, originText}
 use Rattle.scope.specs.Layers.{Segment}
 use Rattle.scope.specs.Calls.{Split, Tested}
 use Rattle.scope.specs.Why.{Why, cut, tooNear, barred, noNumber, notAbove}
@@ -81,7 +82,7 @@ pub record GrownTold (g : Grown) (r : ℕ) (counts₀ counts₁ : List ℕ) : Ty
 
 -- which reason
 abbrev pub reasonNumber : Why → ℕ
-reasonNumber (cut g) = 0
+reasonNumber (cut g o) = 0
 reasonNumber (tooNear g) = 1
 reasonNumber (barred a b g) = 2
 reasonNumber (noNumber g) = 3
@@ -89,22 +90,44 @@ reasonNumber (notAbove gain g) = 4
 
 -- the segment that it is told of
 abbrev pub segmentOf : Why → Segment
-segmentOf (cut g) = g
+segmentOf (cut g o) = g
 segmentOf (tooNear g) = g
 segmentOf (barred a b g) = g
 segmentOf (noNumber g) = g
 segmentOf (notAbove gain g) = g
 
+-- the kind and the number of a cut's origin, and how long its text is, or what three places held
+abbrev pub kindOr : Why → ℕ → ℕ
+kindOr (cut g o) before = kindOf o
+kindOr (tooNear g) before = before
+kindOr (barred a b g) before = before
+kindOr (noNumber g) before = before
+kindOr (notAbove gain g) before = before
+
+abbrev pub originNumberOr : Why → ℕ → ℕ
+originNumberOr (cut g o) before = originNumber o
+originNumberOr (tooNear g) before = before
+originNumberOr (barred a b g) before = before
+originNumberOr (noNumber g) before = before
+originNumberOr (notAbove gain g) before = before
+
+abbrev pub textLengthOr : Why → ℕ → ℕ
+textLengthOr (cut g o) before = length (originText o)
+textLengthOr (tooNear g) before = before
+textLengthOr (barred a b g) before = before
+textLengthOr (noNumber g) before = before
+textLengthOr (notAbove gain g) before = before
+
 -- the first and the second of the pair that bars, or what two places held
 abbrev pub firstOr : Why → ℕ → ℕ
-firstOr (cut g) before = before
+firstOr (cut g o) before = before
 firstOr (tooNear g) before = before
 firstOr (barred a b g) before = a
 firstOr (noNumber g) before = before
 firstOr (notAbove gain g) before = before
 
 abbrev pub secondOr : Why → ℕ → ℕ
-secondOr (cut g) before = before
+secondOr (cut g o) before = before
 secondOr (tooNear g) before = before
 secondOr (barred a b g) before = b
 secondOr (noNumber g) before = before
@@ -112,7 +135,7 @@ secondOr (notAbove gain g) before = before
 
 -- the gain that does not exceed the threshold, or what a place held
 abbrev pub notAboveOr : Why → Float → Float
-notAboveOr (cut g) before = before
+notAboveOr (cut g o) before = before
 notAboveOr (tooNear g) before = before
 notAboveOr (barred a b g) before = before
 notAboveOr (noNumber g) before = before

@@ -6,9 +6,11 @@ use two_step_search::Guesses;
 ghost use mathlib.Core.Path.{_≡_};
 ghost use Prim.Native.Nat.{_≤_};
 ghost use lib.ListN.{getD, set};
+ghost use lib.ListN as ListN;
+ghost use Rattle.scope.specs.Why.{textOf};
 ghost use Rattle.two_step_search.specs.Guessed.{rowsOf};
 ghost use Rattle.reasons.specs.Answers.{toWhy};
-ghost use Rattle.told.specs.Told.{countedRoom, GrownTold, reasonNumber, segmentOf, firstOr, secondOr, notAboveOr};
+ghost use Rattle.told.specs.Told.{countedRoom, GrownTold, reasonNumber, segmentOf, kindOr, originNumberOr, textLengthOr, firstOr, secondOr, notAboveOr};
 
 // How many of the nodes that a host lends are lent on: none where it lends less than four counts, so that a tree that nothing lower refuses is
 // refused by 7.
@@ -87,27 +89,38 @@ fn put_ends(segment: Segment, start: &mut usize, stop: &mut usize)
     *stop = segment.stop.0;
 }
 
-// Stores what is told of a row: which reason, and the ends of the segment that it is told of; a and b where a pair bars it, the gain where that is
-// told. The other places stay.
+// Stores what is told of a row: which reason, and the ends of the segment that it is told of; for a cut the origin's kind and number, and the length of its
+// text, of which so many bytes are written; a and b where a pair bars it, the gain where that is told. The other places stay.
 pub fn put_why(
     found: Why,
+    written: usize,
     reason: &mut u32,
     start: &mut usize,
     stop: &mut usize,
+    kind: &mut usize,
+    number: &mut usize,
+    length: &mut usize,
     a: &mut usize,
     b: &mut usize,
     gain: &mut f64,
 )
+    requires { ⌜ written ≡ ListN.length (textOf (toWhy found)) ⌝ }
     ensures reason { λ _. ⌜ now (reason .exit) ≡ reasonNumber (toWhy found) ⌝ }
     ensures start { λ _. ⌜ now (start .exit) ≡ segmentOf (toWhy found) .start ⌝ }
     ensures stop { λ _. ⌜ now (stop .exit) ≡ segmentOf (toWhy found) .stop ⌝ }
+    ensures kind { λ _. ⌜ now (kind .exit) ≡ kindOr (toWhy found) (now (kind .entry)) ⌝ }
+    ensures number { λ _. ⌜ now (number .exit) ≡ originNumberOr (toWhy found) (now (number .entry)) ⌝ }
+    ensures length { λ _. ⌜ now (length .exit) ≡ textLengthOr (toWhy found) (now (length .entry)) ⌝ }
     ensures a { λ _. ⌜ now (a .exit) ≡ firstOr (toWhy found) (now (a .entry)) ⌝ }
     ensures b { λ _. ⌜ now (b .exit) ≡ secondOr (toWhy found) (now (b .entry)) ⌝ }
     ensures gain { λ _. ⌜ now (gain .exit) ≡ notAboveOr (toWhy found) (now (gain .entry)) ⌝ }
 {
     match found {
-        Why::Cut(segment) => {
+        Why::Cut(segment, origin) => {
             *reason = CUT;
+            *kind = origin.kind();
+            *number = origin.number();
+            *length = written;
             put_ends(segment, start, stop);
         }
         Why::TooNear(segment) => {

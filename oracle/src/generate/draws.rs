@@ -42,6 +42,9 @@ pub fn lists(random: &mut Random, draft: &mut Draft) {
     if random.one_in(4) {
         repeat(random, draft);
     }
+    if random.one_in(6) {
+        behind_others(random, draft);
+    }
     draft.w = most(random, draft);
 }
 
@@ -90,6 +93,13 @@ fn repeat(random: &mut Random, draft: &mut Draft) {
         let [from, to] = [(); 2].map(|()| 2 * random.below(pairs) as usize);
         draft.draws.copy_within(from..from + 2, to);
     }
+}
+
+/// The draws behind some that are passed over.
+fn behind_others(random: &mut Random, draft: &mut Draft) {
+    let count = random.of(&[1, 3, 12, 100]);
+    let others = (0..count).flat_map(|_| one(random, draft, Sort::Crossed));
+    draft.draws = others.chain(draft.draws.iter().copied()).collect();
 }
 
 /// W: none, fewer than the draws that are long enough, as many, more.

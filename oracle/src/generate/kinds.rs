@@ -227,6 +227,20 @@ fn apart(draft: &mut Draft, stop: u64) {
     draft.cells[from as usize..(stop * draft.d) as usize].fill(1e4);
 }
 
+/// A run of zeros but for some stretches: many of its segments are cut by more than the run is, and many by
+/// the same gain.
+fn raised(random: &mut Random, draft: &mut Draft) {
+    let (n, d) = (draft.n, draft.d);
+    draft.cells.fill(0.0);
+    for _ in 0..random.between(1, 3) {
+        let from = random.below(n);
+        let to = n.min(from + random.between(1, n / 4 + 1));
+        draft.cells[(from * d) as usize..(to * d) as usize].fill(8.0);
+    }
+    (draft.m, draft.forbidden) = (random.between(1, 3), None);
+    draft.value = random.of(&[0.0, 1.0, 10.0, 40.0]);
+}
+
 /// A run of great values that no gain cuts: there are infinite ones, and some that are no number.
 fn great(random: &mut Random, draft: &mut Draft) {
     for cell in &mut draft.cells {
@@ -298,6 +312,7 @@ pub fn draft(random: &mut Random, kind: &'static str, closed_in: u64) -> Draft {
             match random.below(12) {
                 0 | 1 => cut_everywhere(random, &mut draft),
                 2 => apart(&mut draft, n),
+                3..=5 => raised(random, &mut draft),
                 _ => (),
             }
         }

@@ -29,8 +29,8 @@ pub fn numbers(kind: &str) -> &'static [u64] {
 pub fn slices(kind: &str) -> u64 {
     match kind {
         "cand" | "gain" | "search" | "curve" => 1,
-        "order" | "stored" | "why" => 2,
-        "knn" => 3,
+        "order" | "stored" => 2,
+        "knn" | "why" => 3,
         "tree" | "wild" => 4,
         _ => 0,
     }

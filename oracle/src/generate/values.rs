@@ -110,7 +110,7 @@ pub const SMALLEST_LAYER: f64 = 1.0 / 4096.0;
 
 /// Layer values, mostly few and not small, since a value v makes about 2/v segments.
 pub fn layers(random: &mut Random) -> Vec<f64> {
-    match random.weighted(&[30, 20, 15, 10, 15, 1, 2]) {
+    match random.weighted(&[30, 20, 15, 10, 15, 1, 2, 8]) {
         0 => vec![],
         1 => {
             let base = random.of(&[0.5, std::f64::consts::FRAC_1_SQRT_2, 0.9, 0.8, 2.0 / 3.0]);
@@ -138,8 +138,17 @@ pub fn layers(random: &mut Random) -> Vec<f64> {
             let near = beside(random, SMALLEST_LAYER).max(SMALLEST_LAYER);
             vec![random.of(&[SMALLEST_LAYER, near, 0.001, 0.0003])]
         }
-        _ => (0..64).map(|_| random.of(&[0.5, 0.25, 0.9])).collect(),
+        6 => (0..64).map(|_| random.of(&[0.5, 0.25, 0.9])).collect(),
+        _ => alike(random),
     }
+}
+
+/// Layers with the same segments, behind some whose segments are nearly the run.
+fn alike(random: &mut Random) -> Vec<f64> {
+    let mut layers = vec![0.99; random.of(&[0, 0, 1, 2, 9, 60])];
+    let [one, other] = [(); 2].map(|()| random.of(&[0.75, 0.5, 1.0 / 3.0, 0.25, 0.2]));
+    layers.extend([one, other, one, one]);
+    layers
 }
 
 /// Layers of many short segments of 4,096 rows. Of segments in which m = 1 leaves a candidate a layer

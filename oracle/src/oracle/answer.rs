@@ -61,7 +61,7 @@ fn values(case: &Case) -> String {
         Case::Stored(case) => Stored::answer(&original::stored(case)),
         Case::Tree(case) => Tree::answer(&original::tree(case)),
         Case::Wild(Wild(case)) => Wild::answer(&original::tree(case)),
-        Case::Why(case) => Why::answer(why::why(case)),
+        Case::Why(case) => Why::answer(&why::why(case)),
         Case::Order(Order { matrix }) => {
             let (ordering, distances) = original::order(matrix);
             Order::answer(&ordering, &distances)

@@ -131,8 +131,8 @@ fn listed(grown: &Grown) -> String {
         let mut cut = grown.nodes.iter().filter(|node| node.significant);
         let choice = cut.find_map(|node| node.choice.as_ref().filter(|c| c.split == *row));
         let choice = choice.expect("a cut is a significant node's choice");
-        let gain = bits(choice.gain);
-        sheet += &format!("cut\t{row}\t{gain}\t{}\t{}\n", choice.start, choice.stop);
+        let (gain, origin) = (bits(choice.gain), choice.origin.text());
+        sheet += &format!("cut\t{row}\t{gain}\t{}\t{}\t{origin}\n", choice.start, choice.stop);
     }
     sheet + &format!("nodes\t{}\n", grown.nodes.len())
 }
@@ -142,7 +142,7 @@ pub fn row(word: &[u8]) -> Option<usize> {
     number(word)
 }
 
-/// The reason's word, the row, what goes with the reason, and the segment's ends.
+/// The reason's word, the row, what goes with the reason, the segment's ends, and of a cut its origin.
 pub fn why(input: &[u8], row: usize) -> String {
     written(input, |deck| {
         if row >= deck.n {

@@ -5,15 +5,15 @@ use changeforest::gain::{
     gain_from_likelihoods, ApproxGain, ApproxGainResult, ChangeInMean, GainResult,
 };
 use changeforest::optimizer::{GridSearch, OptimizerResult, TwoStepSearch};
-use changeforest::utils::{LAST_DISTANCES, LENT_CURVES};
+use changeforest::utils::{self, LAST_DISTANCES, LENT_CURVES};
 use changeforest::{
     BinarySegmentationResult, BinarySegmentationTree, Classifier, ClassifierGain, Control, Gain,
     ModelSelectionResult, Optimizer, Segmentation, SegmentationType,
 };
 use ndarray::{Array1, Array2, ArrayView2};
 use protocol::{
-    Cand, Case, Forbidden, Grown, Guesses, Matrix, Node, Perm, Pick, Record, Rel, Search, Segment,
-    Shortest, Stored, Tree, Why, Wild,
+    Cand, Case, Forbidden, Grown, Guesses, Matrix, Node, Origin, Perm, Pick, Record, Rel, Search,
+    Segment, Shortest, Stored, Tree, Why, Wild,
 };
 use std::panic::catch_unwind;
 
@@ -106,7 +106,12 @@ fn view(matrix: &Matrix) -> ArrayView2<'_, f64> {
 
 fn record(result: &OptimizerResult) -> Record {
     let (start, stop) = (result.start, result.stop);
-    Record { start, stop, split: result.best_split, gain: result.max_gain }
+    let origin = match result.origin {
+        utils::Origin::Direct => Origin::Direct,
+        utils::Origin::Layer(number) => Origin::Layer(number),
+        utils::Origin::Draw(number) => Origin::Draw(number),
+    };
+    Record { start, stop, split: result.best_split, gain: result.max_gain, origin }
 }
 
 /// The candidates, or the number that the Rust's own refusal has here.
@@ -265,6 +270,7 @@ pub fn permuted(case: &Perm, l: usize) -> (usize, f64, bool) {
         best_split: 0,
         max_gain: case.max,
         gain_results: first_step(l, case.max, case.deltas.len()),
+        origin: utils::Origin::Direct,
     });
     let p = result.p_value.expect("a p-value is set");
     let counter = (p * (case.p + 1) as f64).round();

@@ -1,8 +1,9 @@
 //! Why a row is on the sheet or is not: a second reading of document 02 ("Why is row 212 not on the
-//! sheet?"), which the Rust has nothing of. The tree, the candidates and the gain are the Rust's.
+//! sheet?"), which the Rust has nothing of. The tree, with where its choices come from, the candidates and
+//! the gain are the Rust's.
 
 use crate::{original, rules};
-use protocol::{Forbidden, Node, Reason, Segment, Shortest, Stored, Told, Tree, Why};
+use protocol::{Forbidden, Node, Reason, Record, Segment, Shortest, Stored, Told, Tree, Why};
 
 /// "it is a cut, and of which reached segment; or, within the uncut segment that holds it, the first that
 /// applies".
@@ -11,8 +12,8 @@ pub fn why(case: &Why) -> Told {
     let grown = original::tree(tree);
     let node = reached(&grown.nodes, *row);
     let (start, stop) = (node.start, node.stop);
-    let reason = match cut_at(node) {
-        Some(_) => Reason::Cut,
+    let reason = match cut_by(node) {
+        Some(choice) => Reason::Cut(choice.origin.text()),
         None => uncut(stored, *threshold, start, stop, *row),
     };
     Told { reason, start, stop }
@@ -21,15 +22,15 @@ pub fn why(case: &Why) -> Told {
 /// From the whole run down, the segment that is cut at the row, or the uncut one that holds it.
 fn reached(nodes: &[Node], row: usize) -> &Node {
     let mut node = &nodes[0];
-    while let Some(split) = cut_at(node).filter(|split| *split != row) {
+    while let Some(choice) = cut_by(node).filter(|choice| choice.split != row) {
         let [left, right] = node.parts;
-        node = &nodes[if row < split { left } else { right }];
+        node = &nodes[if row < choice.split { left } else { right }];
     }
     node
 }
 
-fn cut_at(node: &Node) -> Option<usize> {
-    node.choice.filter(|_| node.significant).map(|choice| choice.split)
+fn cut_by(node: &Node) -> Option<Record> {
+    node.choice.filter(|_| node.significant)
 }
 
 /// "too near an end; barred, with the first listed pair that bars it; its gain is no number; its gain

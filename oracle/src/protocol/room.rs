@@ -1,5 +1,5 @@
-//! Lent memory: what document 01 asks of each slice, with a closed end or draws document 02, and what
-//! docs/REPLAY.md lends. All lengths are exact.
+//! Lent memory: what document 01 asks of each slice, with a closed end, draws or the text of an origin
+//! document 02, and what docs/REPLAY.md lends. All lengths are exact.
 
 use crate::{Capacities, Lists, Matrix, Segment, Shortest};
 
@@ -20,6 +20,9 @@ pub struct Slice {
 }
 
 const LONGER: u128 = 3;
+
+/// "in 25 lent bytes or more (fewer is 7)".
+const TEXT: usize = 25;
 
 fn slice(asked: Option<u128>, capacity: usize) -> Slice {
     Slice { asked, capacity: capacity as u128, by_ends: false }
@@ -80,6 +83,11 @@ impl Capacities {
     /// T records.
     pub(crate) fn stored(&self, lists: &Lists) -> Slice {
         slice(most_stored(lists), self.records)
+    }
+
+    /// The text of an origin, whatever the answer.
+    pub(crate) fn text(&self) -> Slice {
+        slice(Some(TEXT as u128), TEXT)
     }
 
     /// "B nodes, T+B records, (B-1)/2 cuts", in the page's order: records, nodes, cuts.

@@ -1,7 +1,7 @@
 //! `stored`, and the records that it, `tree` and `wild` tell.
 
 use crate::text::{all, bits};
-use crate::{Capacities, Fields, Forbidden, Kind, Matrix, Shortest, Slice};
+use crate::{Capacities, Fields, Forbidden, Kind, Matrix, Origin, Shortest, Slice};
 
 /// What is searched before a tree is grown: the segments of layers, or those drawn, flat pairs, until W
 /// records stand.
@@ -51,6 +51,7 @@ pub struct Record {
     pub stop: usize,
     pub split: usize,
     pub gain: f64,
+    pub origin: Origin,
 }
 
 impl Stored {
@@ -61,6 +62,9 @@ impl Stored {
 
 /// How many records, and each.
 pub(crate) fn counted(records: &[Record]) -> String {
-    let record = |r: Record| format!("{},{},{},{}", r.start, r.stop, r.split, bits(r.gain));
+    let record = |r: Record| {
+        let (gain, origin) = (bits(r.gain), r.origin.word());
+        format!("{},{},{},{gain},{origin}", r.start, r.stop, r.split)
+    };
     format!(" {}{}", records.len(), all(records, record))
 }

@@ -84,7 +84,10 @@ impl Wild {
 }
 
 fn node(node: Node) -> String {
-    let choice = |r: Record| format!("{},{},{},{}", r.split, bits(r.gain), r.start, r.stop);
+    let choice = |r: Record| {
+        let (gain, origin) = (bits(r.gain), r.origin.word());
+        format!("{},{gain},{},{},{origin}", r.split, r.start, r.stop)
+    };
     let choice = node.choice.map_or("-".into(), choice);
     let significant = u8::from(node.significant);
     let [left, right] = node.parts;

@@ -21,15 +21,16 @@ impl Kind for Why {
         Some(Why { tree, row })
     }
 
-    /// Sums, records; no nodes and no cuts.
+    /// Sums, records, text; no nodes and no cuts.
     fn lends(&self, capacities: &Capacities) -> Vec<Slice> {
-        self.tree.stored.lends(capacities)
+        let stored = self.tree.stored.lends(capacities);
+        stored.into_iter().chain([capacities.text()]).collect()
     }
 }
 
-#[derive(Clone, Copy)]
 pub enum Reason {
-    Cut,
+    /// The text of the choice's origin.
+    Cut(String),
     Near,
     /// The first listed pair that bars the row.
     Barred(usize, usize),
@@ -39,7 +40,6 @@ pub enum Reason {
 }
 
 /// A reason, and the ends of the segment that it is told of.
-#[derive(Clone, Copy)]
 pub struct Told {
     pub reason: Reason,
     pub start: usize,
@@ -47,22 +47,22 @@ pub struct Told {
 }
 
 impl Told {
-    /// The reason's word, what goes with it, and the ends.
+    /// The reason's word, what goes with it, the ends, and of a cut its text.
     pub fn words(&self) -> Vec<String> {
-        let (word, with) = match self.reason {
-            Reason::Cut => ("cut", vec![]),
-            Reason::Near => ("near", vec![]),
-            Reason::Barred(a, b) => ("barred", vec![a.to_string(), b.to_string()]),
-            Reason::Nan => ("nan", vec![]),
-            Reason::Below(gain) => ("below", vec![bits(gain)]),
+        let (word, with, text) = match &self.reason {
+            Reason::Cut(text) => ("cut", vec![], Some(text.clone())),
+            Reason::Near => ("near", vec![], None),
+            Reason::Barred(a, b) => ("barred", vec![a.to_string(), b.to_string()], None),
+            Reason::Nan => ("nan", vec![], None),
+            Reason::Below(gain) => ("below", vec![bits(*gain)], None),
         };
         let ends = [self.start, self.stop].map(|end| end.to_string());
-        [word.into()].into_iter().chain(with).chain(ends).collect()
+        [word.into()].into_iter().chain(with).chain(ends).chain(text).collect()
     }
 }
 
 impl Why {
-    pub fn answer(told: Told) -> String {
+    pub fn answer(told: &Told) -> String {
         format!(" {}", told.words().join(" "))
     }
 }

@@ -2,10 +2,12 @@
 
 use haspgarnet_changeforest::{owned, Matrix, Node, Segments, Settings};
 
-/// None of them is one byte repeated, so that an entry that is shifted shows.
+/// None of the first three is one byte repeated, so that an entry that is shifted shows; the last is in no
+/// text.
 const VALUE: f64 = -3.25e-200;
 const NUMBER: usize = 0xa5a5_a5a5_dead_beef;
 const PLACE: u32 = 0xdead_beef;
+const BYTE: u8 = 0xdb;
 
 /// So many entries stand behind a lent slice, to show what was written past its end.
 const BEHIND: usize = 3;
@@ -49,11 +51,16 @@ pub fn places(length: usize) -> Lent<u32> {
     Lent::filled(length, PLACE)
 }
 
-/// A node with a choice, from a tree that is cut, with ends and parts that no tree has.
+pub fn bytes(length: usize) -> Lent<u8> {
+    Lent::filled(length, BYTE)
+}
+
+/// A node whose choice is a draw's, from a tree that is cut, with ends and parts that no tree has.
 pub fn nodes(length: usize) -> Lent<Node> {
-    let readings = Matrix { cells: &[0.0, 0.0, 8.0], rows: 3, columns: 1 };
-    let settings = Settings { m: 1, threshold: 0.0, ..Settings::default() };
-    let grown = owned::tree(readings, &settings, Segments::None).map(|tree| tree.nodes);
+    let readings = Matrix { cells: &[0.0, 0.0, 8.0, 8.0, 0.0, 0.0, 0.0, 0.0], rows: 8, columns: 1 };
+    let settings = Settings { m: 1, threshold: 40.0, ..Settings::default() };
+    let drawn = Segments::Draws { pairs: &[4, 0, 0, 4], most: 1 };
+    let grown = owned::tree(readings, &settings, drawn).map(|tree| tree.nodes);
     let mut node = grown.unwrap_or_default().first().copied().unwrap_or_default();
     (node.start, node.stop, node.left, node.right) = (NUMBER, NUMBER - 1, NUMBER - 2, NUMBER - 3);
     Lent::filled(length, node)

@@ -1,6 +1,7 @@
 //! replay [--wide]: answers each case of standard input (docs/REPLAY.md) through the functions that
 //! hosts call. What is told of a case is what the library answers; nothing is judged here. A kind's calls
-//! stand in one of these files, beside the file of that name in ../protocol.
+//! stand in one of these files, beside the file of that name in ../protocol. Where the crate panics, since
+//! the library answers what it never should, that is told, and the next case is answered.
 
 mod curves;
 mod lengths;
@@ -16,6 +17,7 @@ mod why;
 use outcome::Outcome;
 use protocol::{Capacities, Case, Line};
 use std::io::{stdin, stdout, BufRead, BufWriter, Result, Write};
+use std::panic::catch_unwind;
 
 /// A kind of case that can be called: lends what the line says, calls, and tells what came of it.
 trait Call {
@@ -60,7 +62,8 @@ fn main() -> Result<()> {
     let (mut input, mut output) = (stdin().lock(), BufWriter::new(stdout().lock()));
     let mut line = vec![];
     while input.read_until(b'\n', &mut line)? > 0 {
-        writeln!(output, "{}", answer(&line, capacities))?;
+        let answer = catch_unwind(|| answer(&line, capacities));
+        writeln!(output, "{}", answer.as_deref().unwrap_or("panics"))?;
         line.clear();
     }
     output.flush()

@@ -4,37 +4,56 @@ use crate::outcome::agree;
 use crate::{Call, Outcome};
 use haspgarnet_changeforest::lent::SegmentsRoom;
 use haspgarnet_changeforest::{lent, owned, Lists, Refusal, Segments, Settings};
-use protocol::{Line, Record, Stored};
+use protocol::{Line, Origin, Record, Stored};
 
-/// Room for records: a record is three rows and a gain.
+/// Room for records: a record is five numbers and a gain.
 pub struct Records {
     pub rows: Lent<usize>,
     pub gains: Lent<f64>,
 }
 
+const NUMBERS: usize = 5;
+
 impl Records {
     pub fn of(length: usize) -> Records {
-        Records { rows: numbers(3 * length), gains: values(length) }
+        Records { rows: numbers(NUMBERS * length), gains: values(length) }
     }
 
     pub fn told(&self, count: usize) -> Vec<Record> {
-        let (rows, gains) = (self.rows.told(3 * count), self.gains.told(count));
+        let (rows, gains) = (self.rows.told(NUMBERS * count), self.gains.told(count));
         let record = |(row, gain): (&[usize], &f64)| Record {
             start: row[0],
             stop: row[1],
             split: row[2],
             gain: *gain,
+            origin: origin(row[3], row[4]),
         };
-        rows.chunks_exact(3).zip(gains).map(record).collect()
+        rows.chunks_exact(NUMBERS).zip(gains).map(record).collect()
     }
 
     pub fn kept_past(&self, told: usize) -> bool {
-        self.rows.kept_past(3 * told) && self.gains.kept_past(told)
+        self.rows.kept_past(NUMBERS * told) && self.gains.kept_past(told)
+    }
+}
+
+fn origin(kind: usize, number: usize) -> Origin {
+    use haspgarnet_changeforest::Origin as Known;
+    match Known::of(kind, number) {
+        Some(Known::Direct) => Origin::Direct,
+        Some(Known::Layer(number)) => Origin::Layer(number),
+        Some(Known::Draw(number)) => Origin::Draw(number),
+        None => Origin::Unknown(kind, number),
     }
 }
 
 pub fn record(record: &haspgarnet_changeforest::Record) -> Record {
-    Record { start: record.start, stop: record.stop, split: record.split, gain: record.gain }
+    Record {
+        start: record.start,
+        stop: record.stop,
+        split: record.split,
+        gain: record.gain,
+        origin: origin(record.kind, record.number),
+    }
 }
 
 pub fn settings(case: &Stored) -> Settings<'_> {
@@ -58,6 +77,11 @@ pub fn segments(case: &Stored) -> Option<Segments<'_>> {
     }
 }
 
+/// Whether it is told of every record where it comes from.
+pub fn known<'a>(mut records: impl Iterator<Item = &'a Record>) -> bool {
+    records.all(|record| !matches!(record.origin, Origin::Unknown(..)))
+}
+
 /// What the lent call that stores alone answers, and whether all else is as it was. The line's first two
 /// slices are lent to it: sums and records.
 pub fn stored(case: &Stored, line: &Line) -> (Result<Vec<Record>, Refusal>, bool) {
@@ -72,7 +96,9 @@ pub fn stored(case: &Stored, line: &Line) -> (Result<Vec<Record>, Refusal>, bool
     let told = count.map_or(0, |_| sums_of(&readings));
     let left = count.is_err() || as_gain_leaves(readings, sums.told(told));
     let kept = left && sums.kept_past(told) && records.kept_past(count.unwrap_or(0));
-    (count.map(|count| records.told(count)), kept)
+    let stored = count.map(|count| records.told(count));
+    let kept = kept && known(stored.iter().flatten());
+    (stored, kept)
 }
 
 impl Call for Stored {

@@ -1,7 +1,7 @@
 use crate::lent::{nodes, numbers, values, Lent};
 use crate::mean::{as_gain_leaves, matrix, sums_of};
 use crate::outcome::{agree, no_lower};
-use crate::segments::{lists, record, segments, settings, stored, Records};
+use crate::segments::{known, lists, record, segments, settings, stored, Records};
 use crate::{Call, Outcome};
 use haspgarnet_changeforest::lent::TreeRoom;
 use haspgarnet_changeforest::{lent, owned, Counts, Node, Refusal, Settings};
@@ -112,6 +112,9 @@ fn grown(case: &Tree, line: &Line, words: fn(&Grown) -> String) -> Outcome {
         }
     };
     let grown = counts.map(|counts| room.grown(counts));
+    let known = grown.as_ref().ok().is_none_or(|Grown { nodes, records, .. }| {
+        known(records.iter().chain(nodes.iter().filter_map(|node| node.choice.as_ref())))
+    });
     let agrees = segments(&case.stored).is_none_or(|segments| {
         let lent = grown.as_ref().map(Wild::answer).map_err(|why| *why);
         let owned = owned::tree(readings, &settings, segments);
@@ -119,7 +122,7 @@ fn grown(case: &Tree, line: &Line, words: fn(&Grown) -> String) -> Outcome {
     });
     let (stored, stored_kept) = stored(&case.stored, line);
     Outcome {
-        kept: kept && stored_kept,
+        kept: kept && known && stored_kept,
         agrees: agrees && begins_with(&grown, &stored),
         told: grown.map(|grown| words(&grown)),
     }

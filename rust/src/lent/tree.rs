@@ -5,12 +5,13 @@ use crate::refusal::unless;
 use crate::{ffi, Counts, Lists, Matrix, Node, Refusal, Settings};
 
 /// The memory that segments are stored in. With T the most that draws may leave, or where there are none the layers' segments summed:
-/// sums `(rows + 1) * columns`, rows `3 * T`, gains T.
+/// sums `(rows + 1) * columns`, rows `5 * T`, gains T.
 #[derive(Debug, Default)]
 pub struct SegmentsRoom<'a> {
     /// Takes the prefix sums.
     pub sums: &'a mut [f64],
-    /// Start, stop and best split of each record, three entries a record.
+    /// Start, stop, best split, kind and number of each record, five entries a record; [`Origin::of`](crate::Origin::of) reads the last
+    /// two.
     pub rows: &'a mut [usize],
     /// The gain of each record.
     pub gains: &'a mut [f64],
@@ -54,12 +55,12 @@ pub fn stored_segments(
 }
 
 /// The memory that a tree is grown in. With T as in [`SegmentsRoom`] and B the greater of 1 and `2 * floor((rows - 1) / m) - 1`, with a
-/// closed end `2 * floor(rows / m) - 1`: sums `(rows + 1) * columns`, rows `3 * (T + B)`, gains `T + B`, nodes B, cuts `(B - 1) / 2`.
+/// closed end `2 * floor(rows / m) - 1`: sums `(rows + 1) * columns`, rows `5 * (T + B)`, gains `T + B`, nodes B, cuts `(B - 1) / 2`.
 #[derive(Debug, Default)]
 pub struct TreeRoom<'a> {
     /// Takes the prefix sums.
     pub sums: &'a mut [f64],
-    /// Start, stop and best split of each record, three entries a record; the stored ones first.
+    /// The records as in [`SegmentsRoom`], the stored ones first.
     pub rows: &'a mut [usize],
     /// The gain of each record.
     pub gains: &'a mut [f64],

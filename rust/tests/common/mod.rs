@@ -1,6 +1,6 @@
 //! What the files of tests share; not each uses all of it.
 #![allow(dead_code)]
-use haspgarnet_changeforest::{Matrix, Node, Record, Refusal, Settings, Split};
+use haspgarnet_changeforest::{Matrix, Node, Record, Refusal, Settings, Split, Tree};
 use std::fmt::Debug;
 
 pub fn column(cells: &[f64]) -> Matrix<'_> {
@@ -21,6 +21,14 @@ pub fn fields(record: &Record) -> (usize, usize, usize, f64) {
 
 pub fn choice(node: &Node) -> Option<(usize, usize, usize, f64)> {
     node.choice().as_ref().map(fields)
+}
+
+/// All of a tree but where its records come from.
+pub fn without_origins(tree: &Tree) -> impl PartialEq + Debug {
+    let node = |node: &Node| (node.start, node.stop, node.significant, choice(node), node.left, node.right);
+    let nodes: Vec<_> = tree.nodes.iter().map(node).collect();
+    let records: Vec<_> = tree.records.iter().map(fields).collect();
+    (nodes, records, tree.cuts.clone(), tree.stored)
 }
 
 pub fn number<T: Debug>(answer: Result<T, Refusal>) -> u32 {

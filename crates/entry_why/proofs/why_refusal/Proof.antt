@@ -8,6 +8,7 @@ use denote.Ref.{now}
 use lib.ListN.{drop}
 use Rattle.scope.specs.Asked.{Matrix, Settings}
 use Rattle.scope.specs.Refusals.{Test, firstOf}
+use Rattle.scope.specs.Origin.{originRoom}
 use Rattle.scope.specs.Draws.{mostStored}
 use Rattle.scope.specs.Calls.{runTests}
 use Rattle.scope.specs.Why.{whyTests, whyRefusal}
@@ -29,7 +30,7 @@ abbrev run : tie.Start → List Test
 run s = runTests (matrix s) (settings s)
 
 abbrev from : tie.Start → ℕ → List Test
-from s k = let a = s .args in drop k (whyTests (record { matrix = matrix s; settings = settings s; row = a .row .0; sums = a .sums; records = a .records }))
+from s k = let a = s .args in drop k (whyTests (record { matrix = matrix s; settings = settings s; row = a .row .0; sums = a .sums; records = a .records; text = a .text }))
 
 -- T
 abbrev total : tie.Start → ℕ
@@ -52,8 +53,11 @@ left11 c =
     let s = c .before .before .before .before .before .before .before .before .before .before in
     answers (from s 10) (false ∷ []) (le-ltb (s .args .records) (total s) (rw (← c .before .most-stored .ensures) (c .if3 .left)), tt) ∙ left10 (c .before .before)
 
-left12 : (c : tie.Else4) → firstOf (from (c .before .before .before .before .before .before .before .before .before .before .before .before) 12) ≡ firstOf (from (c .before .before .before .before .before .before .before .before .before .before .before .before) 0)
-left12 c = answers (from (c .before .before .before .before .before .before .before .before .before .before .before .before) 11) (false ∷ []) (sym (c .before .any-past .ensures) ∙ c .if4 .left, tt) ∙ left11 (c .before .before)
+left12 : (c : tie.Else4) → firstOf (from (c .before .before .before .before .before .before .before .before .before .before .before) 12) ≡ firstOf (from (c .before .before .before .before .before .before .before .before .before .before .before) 0)
+left12 c = let s = c .before .before .before .before .before .before .before .before .before .before .before in answers (from s 11) (false ∷ []) (le-ltb (s .args .text) originRoom (c .if4 .left), tt) ∙ left11 (c .before)
+
+left13 : (c : tie.Else5) → firstOf (from (c .before .before .before .before .before .before .before .before .before .before .before .before .before) 13) ≡ firstOf (from (c .before .before .before .before .before .before .before .before .before .before .before .before .before) 0)
+left13 c = answers (from (c .before .before .before .before .before .before .before .before .before .before .before .before .before) 12) (false ∷ []) (sym (c .before .any-past .ensures) ∙ c .if5 .left, tt) ∙ left12 (c .before .before)
 
 returns : tie.Need-returns
 unfolding whyRefusal
@@ -79,15 +83,19 @@ returns-3 c =
 
 returns-4 : tie.Need-returns-4
 unfolding whyRefusal
-returns-4 c = answers (from (c .before .before .before .before .before .before .before .before .before .before .before .before) 11) (true ∷ []) (sym (c .before .any-past .ensures) ∙ c .if4 .taken, tt) ∙ left11 (c .before .before)
+returns-4 c = let s = c .before .before .before .before .before .before .before .before .before .before .before in answers (from s 11) (true ∷ []) (lt-ltb (s .args .text) originRoom (c .if4 .taken), tt) ∙ left11 (c .before)
 
 returns-5 : tie.Need-returns-5
 unfolding whyRefusal
-returns-5 c = let s = c .before .before .before .before .before .before .before .before .before .before .before .before .before .before in answers (from s 12) (true ∷ []) (le-leb (s .args .n) (s .args .row .0) (c .if5 .taken), tt) ∙ left12 (c .before .before)
+returns-5 c = answers (from (c .before .before .before .before .before .before .before .before .before .before .before .before .before) 12) (true ∷ []) (sym (c .before .any-past .ensures) ∙ c .if5 .taken, tt) ∙ left12 (c .before .before)
 
 returns-6 : tie.Need-returns-6
 unfolding whyRefusal
-returns-6 c = let s = c .before .before .before .before .before .before .before .before .before .before .before .before .before .before in answers (from s 12) (false ∷ []) (lt-leb (s .args .n) (s .args .row .0) (c .if5 .left), tt) ∙ left12 (c .before .before)
+returns-6 c = let s = c .before .before .before .before .before .before .before .before .before .before .before .before .before .before .before in answers (from s 13) (true ∷ []) (le-leb (s .args .n) (s .args .row .0) (c .if6 .taken), tt) ∙ left13 (c .before .before)
+
+returns-7 : tie.Need-returns-7
+unfolding whyRefusal
+returns-7 c = let s = c .before .before .before .before .before .before .before .before .before .before .before .before .before .before .before in answers (from s 13) (false ∷ []) (lt-leb (s .args .n) (s .args .row .0) (c .if6 .left), tt) ∙ left13 (c .before .before)
 
 pub why-refusal-spec : {M : Type 1} → statement M
 why-refusal-spec =
@@ -99,7 +107,8 @@ why-refusal-spec =
     returns-2
     most-stored-requires
     returns-3
-    (λ c κs. search needs)
     returns-4
+    (λ c κs. search needs)
     returns-5
-    returns-6)
+    returns-6
+    returns-7)

@@ -56,9 +56,9 @@ module _ {M : Type 1} (𝓤 : URA M) (H : Heap 𝓤) (A : Atoms 𝓤) (W : Given
       let o = ptr (a .x) .1 in
       let i = xs .1 .0 in
       let x = getD ys i blank in
-      let bytes : i * 72 < 2 ^ 64 = byte-fits (good .0 .1) within in
-      let spot = place 72 o i in
-      let vs = holding 5 (node .mach x) (holding 4 (vptr b spot) (holding 3 (word .mach (i * 72)) (empty ∷ fulls (values (reading .ks) xs)))) in
+      let bytes : i * 88 < 2 ^ 64 = byte-fits (good .0 .1) within in
+      let spot = place 88 o i in
+      let vs = holding 5 (node .mach x) (holding 4 (vptr b spot) (holding 3 (word .mach (i * 88)) (empty ∷ fulls (values (reading .ks) xs)))) in
       let ended : Is R x (node .mach x ∷ []) → Walk (Go {0}) W (𝓣 .C) (𝓣 .Λ) (code.function .locals) pl (Done 𝓤 H A W reading xs) (holds 𝓤 H A (reading .ks) xs) vs [] _ =
       λ is. copies ! refl refl (returning ! refl refl (finishes 𝓤 H A W reading xs x (tt, (tt, tt)) is tt refl)) in
       record {
@@ -66,7 +66,7 @@ module _ {M : Type 1} (𝓤 : URA M) (H : Heap 𝓤) (A : Atoms 𝓤) (W : Given
             -- [the slice; its token; _0; …; _1; …; _2; …; _3; …; _4; …; _5; …]
             assigns ! (bin ! (load ! (from ! (stop !)) (look ! 6 refl)) (lit ! tt) (record { fits = bytes })) (from ! (stop !)) (init ! 8 refl (tt, record { fits = bytes })) $
             assigns ! (bin ! (load ! (from ! (fld ! refl (stop !))) (look-in ! 4 (sub ! 0 refl (whole !)))) (load ! (from ! (stop !)) (look ! 8 refl)) tt) (from ! (stop !)) (init ! 10 refl (tt, tt)) $
-            rewrite ! 10 (λ (p : ℕ). ‵ (fat fullShare tyPtr (pl .1 .1 .1 .1 .0) 0 (vptr b p))) (sym (place-is 72 o i)) refl $
+            rewrite ! 10 (λ (p : ℕ). ‵ (fat fullShare tyPtr (pl .1 .1 .1 .1 .0) 0 (vptr b p))) (sym (place-is 88 o i)) refl $
             use1 W (‵ (common 𝓤 H A R a) ⊛ ‵ (common 𝓤 H A R a)) (shr-slice-copy 𝓤 H A W erased (a .κ) R .twice (a .x) _) $ split ! $ fsplit ! $ drop ! $ fsplit ! $ drop ! $ move ! (0 ∷ 2 ∷ []) $
             looks-slice ! tt R (Is R) (shows 𝓤 H A R) (λ y. node .mach y ∷ []) (node .tells) (copy T.the-type T′.the-copy 𝓤 H A W) ys b o (λ q.
             elem-out ! R (Is R) (shows 𝓤 H A R) (λ y. node .mach y ∷ []) (node .tells) q ys i blank b o within (λ is.

@@ -50,19 +50,19 @@ module _ {M : Type 1} (𝓤 : URA M) (H : Heap 𝓤) (A : Atoms 𝓤) (W : Given
       let n = xs .1 .1 .0 in
       let zs : List Node = set (a .list) i n in
       let len = good .0 .0 in
-      let bytes : i * 72 < 2 ^ 64 = byte-fits (good .0 .1 .1) (subst (λ (k : ℕ). i < k) len within) in
+      let bytes : i * 88 < 2 ^ 64 = byte-fits (good .0 .1 .1) (subst (λ (k : ℕ). i < k) len within) in
       let wt = node .lawful 𝓤 H A W .typed n _ (good .1 .1 .0) .0 in
-      let spot = place 72 (a .o) i in
+      let spot = place 88 (a .o) i in
       let same : length zs ≡ a .m = length-set (a .list) i n ∙ len in
       let ws : Lasts (putting .ks) xs = (zs, (tt, (tt, tt))) in
-      let vs = holding 0 vunit (holding 5 (vptr (a .b) spot) (holding 4 (word .mach (i * 72)) (empty ∷ fulls (values (putting .ks) xs)))) in
+      let vs = holding 0 vunit (holding 5 (vptr (a .b) spot) (holding 4 (word .mach (i * 88)) (empty ∷ fulls (values (putting .ks) xs)))) in
       let ended : Walk (Go {0}) W (𝓣 .C) (𝓣 .Λ) (code.function .locals) pl (Done 𝓤 H A W putting xs) (holds 𝓤 H A (putting .ks) (changed (putting .ks) xs ws)) vs [] return = returning ! refl refl (finishes 𝓤 H A W putting xs tt ws refl (length-set (a .list) i n, tt) refl) in
       record {
         run =
             -- [the slice; its token; _0; …; _1; …; _2; …; _3; …; _4; …; _5; …]
             assigns ! (bin ! (load ! (from ! (stop !)) (look ! 6 refl)) (lit ! tt) (record { fits = bytes })) (from ! (stop !)) (init ! 10 refl (tt, record { fits = bytes })) $
             assigns ! (bin ! (load ! (from ! (fld ! refl (stop !))) (look-in ! 4 (sub ! 0 refl (whole !)))) (load ! (from ! (stop !)) (look ! 10 refl)) tt) (from ! (stop !)) (init ! 12 refl (tt, tt)) $
-            rewrite ! 12 (λ (p : ℕ). ‵ (fat fullShare tyPtr (pl .1 .1 .1 .1 .1 .0) 0 (vptr (a .b) p))) (sym (place-is 72 (a .o) i)) refl $
+            rewrite ! 12 (λ (p : ℕ). ‵ (fat fullShare tyPtr (pl .1 .1 .1 .1 .1 .0) 0 (vptr (a .b) p))) (sym (place-is 88 (a .o) i)) refl $
             fsplit ! $ drop ! $ fsplit ! $ opens-slice ! tt R (a .list) (a .b) (a .o) $
             elem-out ! R (Is R) (shows 𝓤 H A R) (λ x. node .mach x ∷ []) (node .tells) fullShare (a .list) i n (a .b) (a .o) within (λ _.
             -- [the element; what it owns; the others; the open borrow; obs; auth; _0; …]

@@ -1,13 +1,14 @@
 -- `put_ends` meets its contract: the two numbers, one after another.
 use native.Mathlib.Omega.{arith}
-use Rattle.scope.specs.Text.{decimal, line}
+use Rattle.scope.specs.Text.{decimal}
+use Rattle.report.specs.Fields.{endedBy}
 use Rattle.report.proofs.Texts.{written-field}
 use borrow.Author.Needs.{needs}
 use Rattle.report.proofs.put_ends.Statement.{statement}
 use Rattle.report.proofs.put_ends.Tie as tie
 
 returns : tie.Need-returns
-unfolding line
+unfolding endedBy
 returns c =
     let ends = c .before .before .before .before .before .before .before .before .before .args .ends in
     let start = c .before .before .before .before .before .before .put-number .ensures in

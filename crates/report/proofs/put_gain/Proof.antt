@@ -1,14 +1,15 @@
 -- `put_gain` meets its contract: the word and the fields, one after another.
 use native.Mathlib.Omega.{arith}
 use lib.Ieee.{binary64, toBits}
-use Rattle.scope.specs.Text.{decimal, hexOf, line}
+use Rattle.scope.specs.Text.{decimal, hexOf}
+use Rattle.report.specs.Fields.{endedBy}
 use Rattle.report.proofs.Texts.{written-then, written-field}
 use borrow.Author.Needs.{needs}
 use Rattle.report.proofs.put_gain.Statement.{statement}
 use Rattle.report.proofs.put_gain.Tie as tie
 
 returns : tie.Need-returns
-unfolding line
+unfolding endedBy
 returns c =
     let s = c .before .before .before .before .before .before .before .before .before .before .before .before .before .before .before .before .before .before .before .before .before .before .before .args in
     let word = c .before .before .before .before .before .before .before .before .before .before .before .before .before .before .before .before .before .before .before .put-text .ensures in

@@ -22,15 +22,17 @@ returns-2 : tie.Need-returns-2
 returns-2 c =
     let s = c .before .before .before .before .before .before .before .before .before .before .before .before .before .before .before .before .before .before .before .args in
     let put = c .before .before .before .before .before .before .put-record .ensures in
+    let given = c .before .before .before .before .before .before .before .before .before .before .direct .given in
     rw (c .before .uncut .ensures, c .behind2 .ensures)
-    (judged-uncut (over (now (s .sums)) (now (s .forbidden)) (s .asked)) (s .start .0) (s .stop .0) (s .counts) (now (s .rows)) (now (s .gains)) _ _ (put .0) (put .1) (rw (c .before .before .before .before .before .before .before .before .before .before .direct .given .1) at (c .before .before .before .before .before .before .before .before .before .before .before .before .judge .ensures)))
+    (judged-uncut (over (now (s .sums)) (now (s .forbidden)) (s .asked)) (s .start .0) (s .stop .0) (s .counts) (now (s .rows)) (now (s .gains)) (given .0 .0) (given .0 .1 .0) (put .0) (put .1) (rw (given .1) at (c .before .before .before .before .before .before .before .before .before .before .before .before .judge .ensures)))
 
 returns-3 : tie.Need-returns-3
 returns-3 c =
     let s = c .before .before .before .before .before .before .before .before .before .before .before .before .before .before .before .before .before .before .args in
     let put = c .before .before .before .before .before .put-record2 .ensures in
+    let given = c .before .before .before .before .before .before .before .before .before .direct2 .given in
     rw (c .behind3 .ensures)
-    (judged-cut (over (now (s .sums)) (now (s .forbidden)) (s .asked)) (s .start .0) (s .stop .0) (s .counts) (now (s .rows)) (now (s .gains)) _ _ (put .0) (put .1) (rw (c .before .before .before .before .before .before .before .before .before .direct2 .given .1) at (c .before .before .before .before .before .before .before .before .before .before .before .judge .ensures)))
+    (judged-cut (over (now (s .sums)) (now (s .forbidden)) (s .asked)) (s .start .0) (s .stop .0) (s .counts) (now (s .rows)) (now (s .gains)) (given .0 .0) (given .0 .1 .0) (put .0) (put .1) (rw (given .1) at (c .before .before .before .before .before .before .before .before .before .before .before .judge .ensures)))
 
 pub judge-spec : {M : Type 1} → statement M
 judge-spec =
