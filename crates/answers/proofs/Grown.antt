@@ -10,7 +10,7 @@ use Rattle.scope.specs.Asked.{off}
 use Rattle.scope.specs.Lists.{holding}
 use Rattle.scope.specs.Refusals.{unless}
 use Rattle.scope.specs.Grid.{Record}
-use Rattle.scope.specs.Layers.{seeded, layersTotal, stored}
+use Rattle.scope.specs.Layers.{seededFrom, layersTotal, stored}
 use Rattle.scope.specs.Text.{bytes, decimal, line}
 use Rattle.scope.specs.Tree.{Run, Tree, storedRecords, treeOf, recordsOf, nodeCount, cuts, sheet, mostNodes}
 use Rattle.scope.specs.Calls.{countsOf, treeCall}
@@ -38,7 +38,7 @@ use Rattle.binary_segmentation.specs.declared.tree.Counts.{Counts as Counted}
 -- what the call for the tree ensures, in the room that the types give, is what `Grew` says
 module _ (g : Given) (cells : List Float) (forbidden : List ℕ) (before after : RecordSlices) (cuts₀ cuts₁ : List ℕ) (r : Grown)
     (left : PointsLeft (matrixHeld g cells) (settingsHeld g forbidden) r before after cuts₀ cuts₁) where
-  pub grew : length (before .sums) ≡ 2112 → length (before .rows) ≡ 1527 → length (before .gains) ≡ 509 → length cuts₀ ≡ 254
+  pub grew : length (before .sums) ≡ 2112 → length (before .rows) ≡ 2545 → length (before .gains) ≡ 509 → length cuts₀ ≡ 254
       → Grew g cells forbidden (before .rows) (before .gains) cuts₀ (after .rows) (after .gains) cuts₁ r
   unfolding treeNumber treeCall
   grew a b c d = record {
@@ -72,7 +72,7 @@ module _ (g : Given) (cells : List Float) (forbidden : List ℕ) (judged : given
       go (suc j) h = let e : k ≡ suc j = cc in rw e
 
   no-segments : storedRecords q ≡ []
-  unfolding storedRecords seeded stored
+  unfolding storedRecords seededFrom stored
   no-segments = refl
 
   -- counts are those of the tree, which is not refused

@@ -6,8 +6,9 @@ use Rattle.scope.specs.Tree.{treeOf}
 use Rattle.scope.specs.Program.{Deck, deckRun, deckRefusal, deckText, sheetText, program}
 use Rattle.demand.specs.Printed.{Answers}
 use Rattle.demand.proofs.Demand.{demand}
+use Rattle.demand.proofs.Origins.{origins}
 use Rattle.deck.proofs.Said.{reads-text}
-use Rattle.limits.proofs.Clean.{deck-clean}
+use Rattle.limits.proofs.Clean.{deck-clean, nothing-stored}
 
 sheet-text : (deck : Deck) → deckRefusal deck ≡ 0 → deckText deck ≡ sheetText (treeOf (deckRun deck))
 sheet-text deck clean = rw clean
@@ -19,5 +20,9 @@ answers input text is =
       is = is;
       printed = λ deck made clean.
           let f = deck-clean deck clean in
-          record { demand = demand (deckRun deck) (f .length-fits .0) (f .sizes .rows .0); lines = is ∙ reads-text deckText input deck made ∙ sheet-text deck clean };
+          record {
+            demand = demand (deckRun deck) (f .length-fits .0) (f .sizes .rows .0);
+            lines = is ∙ reads-text deckText input deck made ∙ sheet-text deck clean;
+            itself = origins (deckRun deck) (f .length-fits .0) (f .sizes .rows .0) .sheet-direct (nothing-stored deck);
+          };
     }

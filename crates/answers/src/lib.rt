@@ -15,16 +15,16 @@ ghost use Rattle.limits.specs.Limits.{givenRefusal};
 ghost use Rattle.report.specs.Written.{Written};
 ghost use Rattle.answers.specs.Answered.{givenText, Grew};
 
-// B for 256 rows: the most nodes, so the most records, of three row numbers each.
+// B for 256 rows: the most nodes, so the most records, of five whole numbers each.
 pub const RECORDS: usize = 509;
 
-pub const ROWS: usize = 3 * RECORDS;
+pub const ROWS: usize = 5 * RECORDS;
 
 // (B-1)/2.
 pub const CUTS: usize = 254;
 
-// So many lines of 84 bytes: `cuts`, `nodes`, and one for each cut.
-pub const TEXT: usize = 84 * (CUTS + 2);
+// So many lines of 111 bytes: `cuts`, `nodes`, and one for each cut.
+pub const TEXT: usize = 111 * (CUTS + 2);
 
 // The answer to a reading, whose cells and forbidden pairs are those that `deck::feed` stored. Tells how many bytes were written.
 pub fn answer(

@@ -15,10 +15,11 @@ use lib.ListN.{length, take, length-map}
 use Rattle.scope.specs.Floats.{isFinite}
 use Rattle.scope.specs.Lists.{every}
 use Rattle.scope.specs.Refusals.{Test, test, firstOf, outside, mostColumns, wellPaired, wrongMatrix, wrongLayers, no2, no3, no7}
+use Rattle.scope.specs.Layers.{seededFrom}
 use Rattle.scope.specs.Draws.{isOdd, bothGiven}
 use Rattle.scope.specs.Calls.{sumsRoom, runTests}
 use Rattle.scope.specs.Asked.{off}
-use Rattle.scope.specs.Program.{Deck, deckTests, deckRefusal, wrongDeck, wrongPairs, isReading, deckMatrix, deckSettings}
+use Rattle.scope.specs.Program.{Deck, deckTests, deckRefusal, wrongDeck, wrongPairs, isReading, deckMatrix, deckSettings, deckRun}
 use Rattle.scope.proofs.Members.{first-of, second-of}
 use Rattle.scope.proofs.Candidates.{or-false, not-outside}
 use Rattle.control.proofs.Clean.{passed, passes}
@@ -115,3 +116,8 @@ module _ (deck : Deck) (clean : DeckClean deck) where
   run-passes ts =
       passes (runTests (deckMatrix deck) (deckSettings deck)) (no7 (sumsRoom (deckMatrix deck)) 2112 ∷ ts) tt run-clean
       ∙ rw (le-ltb 2112 ((deck .n + 1) * deck .d) (omega (arith, add-mul (deck .n) 1 (deck .d), clean .sizes .size, clean .sizes .columns .1)))
+
+-- a deck has no stored segments
+pub nothing-stored : (deck : Deck) → deckRun deck .segments ≡ []
+unfolding seededFrom
+nothing-stored deck = refl

@@ -40,13 +40,15 @@ impl Choice {
         let stop = found.stop;
         let split = found.best_split;
         let origin = found.origin;
+        let kind = origin.kind();
+        let number = origin.number();
         Choice {
             start,
             stop,
             best_split: split,
             max_gain: found.max_gain,
-            kind: origin.kind(),
-            number: origin.number(),
+            kind,
+            number,
         }
     }
 }

@@ -1,4 +1,4 @@
--- Texts written one after another, and the digits of a number. Assumes nothing.
+-- Texts written one after another, the digits of a number, and the most bytes that a number and an origin take. Assumes nothing.
 use mathlib.Core.Path.{_≡_, refl, sym, _∙_, ap}
 use mathlib.Core.Bool.{Bool, true, false, cond}
 use mathlib.Core.List.{List, [], _∷_, _++_, append-assoc}

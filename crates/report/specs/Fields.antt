@@ -1,9 +1,9 @@
--- Fields that may be the start of a line, and the room that a line takes.
+-- Fields as they stand in a line, and the room that a line takes.
 use mathlib.Core.List.{List, [], _∷_, _++_}
 use Prim.Native.Nat.{ℕ}
 use Rattle.scope.specs.Text.{tab}
 
--- fields parted by tabs, and the byte that ends the last: a whole line if it is LF, and more fields follow if it is a tab
+-- fields parted by tabs, and the byte after the last: LF where the line ends there, a tab where it goes on
 unfoldable pub endedBy : ℕ → List (List ℕ) → List ℕ
 endedBy end [] = end ∷ []
 endedBy end (f ∷ []) = f ++ (end ∷ [])

@@ -125,7 +125,7 @@ fn bits_of(gain: f64) -> u64
     f64::to_bits(gain)
 }
 
-// A segment's ends, and the byte that ends them.
+// A segment's ends, and the byte after them.
 pub fn put_ends(out: &mut [u8], at: usize, ends: Segment, end: u8) -> usize
     requires { ⌜ at + 42 ≤ length (now out) ⌝ }
     ensures { λ r. ⌜ Written (now (out .entry)) at (endedBy end (decimal (ends .start .0) ∷ decimal (ends .stop .0) ∷ [])) (now (out .exit)) r ⌝ }
@@ -135,7 +135,7 @@ pub fn put_ends(out: &mut [u8], at: usize, ends: Segment, end: u8) -> usize
     put_number(out, next, ends.stop.0 as u64, end)
 }
 
-// A word with its tab, a row, its gain's bits in a segment, the segment's ends, and the byte that ends them.
+// A word with its tab, a row, its gain's bits in a segment, the segment's ends, and the byte after them.
 pub fn put_gain(
     out: &mut [u8],
     at: usize,
@@ -166,7 +166,7 @@ fn put_numbered(out: &mut [u8], at: usize, word: &[u8], v: u64) -> usize
     put_decimal(out, next, v)
 }
 
-// An origin.
+// An origin: `direct`, `layer K` or `draw K`. It asks just the room that its text takes.
 pub fn put_origin(out: &mut [u8], at: usize, origin: Origin) -> usize
     requires { ⌜ at + length (originText (toOrigin origin)) ≤ length (now out) ⌝ }
     ensures { λ r. ⌜ Written (now (out .entry)) at (originText (toOrigin origin)) (now (out .exit)) r ⌝ }

@@ -18,9 +18,9 @@ use Rattle.scope.specs.Sums.{flatSums, prefixSums}
 use Rattle.scope.specs.Gain.{term, terms, innerGain, gainOf}
 use Rattle.scope.specs.Origin.{Origin, direct, layer, draw, originText}
 use Rattle.scope.specs.Grid.{Record, better, best, trials, search}
-use Rattle.scope.specs.Layers.{Segment, endsOf, layerLength, layerCount, layerStep, layerStart, layerStop, layerSegments, seededFrom, seeded, layersTotal, stored}
+use Rattle.scope.specs.Layers.{Segment, endsOf, layerLength, layerCount, layerStep, layerStart, layerStop, layerSegments, seededFrom, seeded, layersTotal, one, stored}
 use Rattle.scope.specs.Draws.{pairsOf, numbered, drawn, isOdd, bothGiven, anyPast}
-use Rattle.scope.specs.Tree.{storedRecords, inside, choice, verdict, grow, grown, recordsOf, nodeCount, nodes, cuts, sheet}
+use Rattle.scope.specs.Tree.{Node, storedRecords, inside, choice, verdict, grow, grown, recordsOf, nodeCount, nodes, cuts, sheet}
 use Rattle.scope.specs.Neighbours.{difference, squares, distances, insert, ordered, orderOf, others, neighbours, countOf, predictions}
 use Rattle.scope.specs.Curves.{guesses}
 use Rattle.scope.specs.Permutations.{isPermutation, wrongPermutations, addDeltas, added, reaches, exceeds, counter}
@@ -47,6 +47,7 @@ data Case : Type 0 where
   lineOf : ℕ → String → Case
   originsBy : List ℕ → Source → Case
   originTold : Source → ℕ → ℕ → Case
+  originsIn : Source → Case
 
 -- what is seen of it
 data Seen : Type 0 where
@@ -64,6 +65,7 @@ data Seen : Type 0 where
   why : Answer Why → Seen
   origins : List Origin → Seen
   told : Answer Why → List ℕ → Seen
+  inTree : List Origin → List Origin → Seen
 
 abbrev room : ℕ
 room = 64
@@ -136,6 +138,11 @@ run (originTold source row bytes) =
     let settings : Settings = record { shortest = off 1; threshold = whole 50; forbidden = []; source = source } in
     let call = whyCall (record { matrix = column hump; settings = settings; row = row; sums = room; records = room; text = bytes }) in
     told (call .answer) (call .text)
+run (originsIn source) =
+    let settings : Settings = record { shortest = off 1; threshold = whole 50; forbidden = []; source = source } in
+    let call = treeCall (record { matrix = column hump; settings = settings; room = ample }) in
+    let originOf : Record → Origin = λ r. r .origin in
+    inTree (map originOf (call .records)) (map originOf (flatten (map (λ (d : Node). one (d .choice)) (call .nodes))))
 
 -- a case and what is to be seen
 record Marked : Type 0 where
@@ -269,6 +276,8 @@ marked =
     ∷ record { case = originTold layered 4 25; seen = told (given (cut (from 0 8) (layer 2))) (bytes "layer 2") }
     ∷ record { case = originTold (wild (6 ∷ 6 ∷ 0 ∷ 6 ∷ []) 1) 4 25; seen = told (given (cut (from 0 8) (draw 1))) (bytes "draw 1") }
     ∷ record { case = originTold (wild (6 ∷ 6 ∷ 0 ∷ 6 ∷ []) 1) 6 25; seen = told (given (cut (from 4 8) direct)) (bytes "direct") }
+    -- of its tree's records the stored one comes first; the choices of the whole run, of [0,4) and of [4,8)
+    ∷ record { case = originsIn (wild (6 ∷ 6 ∷ 0 ∷ 6 ∷ []) 1); seen = inTree (draw 1 ∷ direct ∷ direct ∷ direct ∷ []) (draw 1 ∷ direct ∷ direct ∷ []) }
     -- of two draws of one segment the first is told; of a draw and the segment itself, with equal gains, the segment
     ∷ record { case = originTold (wild (0 ∷ 6 ∷ 0 ∷ 6 ∷ []) 2) 4 25; seen = told (given (cut (from 0 8) (draw 0))) (bytes "draw 0") }
     ∷ record { case = originTold (wild (0 ∷ 6 ∷ 4 ∷ 8 ∷ []) 2) 6 25; seen = told (given (cut (from 4 8) direct)) (bytes "direct") }
@@ -278,7 +287,7 @@ marked =
     ∷ record { case = originTold (wild (0 ∷ 6 ∷ []) 1) 5 24; seen = told (refused 7) [] }
     ∷ []
 
--- M1 to M11, the three rows for the slips, six for the closed end, thirteen for draws, sixteen for why and ten for origins
+-- M1 to M11, the three rows for the slips, six for the closed end, thirteen for draws, sixteen for why and eleven for origins
 marked-right : map (λ (c : Marked). run (c .case)) marked ≡ map (λ (c : Marked). c .seen) marked
 unfolding run marked originText oneMore add sub mul div ofInt ofBits toBits lt le isNan upward select every outside wrongMatrix isBetween wellPaired wrongLayers wrongSegment wrongSplit allBarred wrongPermutations wrongLengths wrongDeck wrongPairs nearestOf truncation ceiling minimalLength wholeRoot isBarred rangeSize candidates flatSums prefixSums term terms innerGain gainOf better best trials search layerLength layerCount layerStep layerStart layerStop layerSegments seededFrom layersTotal stored pairsOf numbered drawn isOdd bothGiven anyPast storedRecords inside choice verdict grow grown recordsOf nodeCount nodes cuts sheet difference squares distances insert ordered orderOf others neighbours countOf predictions isPermutation addDeltas added reaches exceeds counter lengthAnswer candidatesRefusal candidatesCall gainRefusal gainCall searchRefusal searchCall storedRefusal storedCall treeRefusal treeCall predictRefusal predictCall guesses guessesAnswer permutationAnswer placeOf isNear firstBarring whyOf whyRefusal whyCall askedRefusal whyProgram bytes same parts valueOf number cell cellsOf hexValueOf threshold decimalOf hexOf line readLine readLines readInput deckRefusal cutLines sheetText program flatten
 marked-right = refl

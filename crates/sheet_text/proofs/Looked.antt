@@ -15,6 +15,7 @@ use Rattle.stored.proofs.Chosen.{left, left-all, left-none, left-next}
 use Rattle.report.specs.Written.{Written}
 use Rattle.optimizer.specs.Records.{toRecord, fromRecord}
 use Rattle.optimizer.specs.declared.optimizer_result.GainRecord.{GainRecord}
+use Rattle.optimizer.proofs.Origins.{to-from, from-to}
 use Rattle.sheet_text.specs.Lines.{firstAt, foundOf, lineOf, linesOf}
 use Rattle.sheet_text.specs.declared.Found.the-variants as found
 use Rattle.sheet_text.proofs.Lookup.{first-here, first-past}
@@ -41,10 +42,13 @@ module _ {rows : List ℕ} {gains : List Float} {count row : ℕ} where
   unfolding firstAt
   unseen-all {k} h unseen = unseen .same ∙ rw (left-none rows gains count k h)
 
--- ---- what the code's answer says of the first record
+-- ---- the code's answer for the first record, and what the answer says of it
+pub is-found : (o : Option Record) (g : GainRecord) → o ≡ some (toRecord g) → found.Record g ≡ foundOf o
+is-found o g e = sym (ap foundOf e ∙ ap found.Record (from-to g))
+
 pub found-is : (o : Option Record) (g : GainRecord) → found.Record g ≡ foundOf o → o ≡ some (toRecord g)
 found-is none g h = never (cc)
-found-is (some r) g h = let e : g ≡ fromRecord r = cc in rw e
+found-is (some r) g h = let e : g ≡ fromRecord r = cc in ap some (sym (ap toRecord e ∙ to-from r))
 
 pub nothing-is : (o : Option Record) → found.Nothing ≡ foundOf o → o ≡ none
 nothing-is none h = refl

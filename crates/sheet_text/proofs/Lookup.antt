@@ -57,10 +57,10 @@ module _ (q : Run) (least : 1 ≤ q .shortest .m) where
 
   directs-before : (start stop : ℕ) (t : Tree) → Grows q start stop t → start < stop → (r : Record) → r ∈ directs q t → r .split < stop
   unfolding directs
-  directs-before start stop t (asLeaf h) nonempty r i = direct-before start stop r (one-found q start stop r i) (omega arith)
+  directs-before start stop t (asLeaf h) nonempty r i = direct-before start stop r (one-found (direct q start stop) r i) (omega arith)
   directs-before start stop t (asNode {r = c} {s = l} {t = u} h x y) nonempty r i =
       let far = cut-far q start stop c h in
-      ⊎-elim (λ j. direct-before start stop r (one-found q start stop r j) (omega arith))
+      ⊎-elim (λ j. direct-before start stop r (one-found (direct q start stop) r j) (omega arith))
       (λ j. ⊎-elim (λ w. omega (arith, directs-before start (c .split) l x (omega arith) r w)) (directs-before (c .split) stop u y (omega arith) r) (List·Memᴰ·append-cases (directs q l) j))
       (List·Memᴰ·append-cases (one (direct q start stop)) i)
 

@@ -8,6 +8,7 @@ ghost use mathlib.Core.Path.{_≡_};
 ghost use Prim.Native.Nat.{_+_, _*_, _≤_};
 ghost use lib.ListN.{length, take};
 ghost use Rattle.stored.specs.Flat.{recordsIn};
+ghost use Rattle.report.specs.Fields.{lineRoom};
 ghost use Rattle.report.specs.Written.{Written};
 ghost use Rattle.sheet_text.specs.Lines.{firstAt, foundOf, lineOf, linesOf, sheetOf};
 
@@ -19,7 +20,7 @@ enum Found {
 
 // The first of the records that splits at the row.
 fn record_of(rows: &[usize], gains: &[f64], count: usize, row: Position) -> Found
-    requires { ⌜ (3 * count ≤ length (now rows)) × (count ≤ length (now gains)) ⌝ }
+    requires { ⌜ (5 * count ≤ length (now rows)) × (count ≤ length (now gains)) ⌝ }
     ensures { λ r. ⌜ r ≡ foundOf (firstAt (row .0) (recordsIn (now (rows .entry)) (now (gains .entry)) count)) ⌝ }
 {
     let mut k = 0;
@@ -42,9 +43,9 @@ fn put_line(
     count: usize,
     row: Position,
 ) -> usize
-    requires { ⌜ (at + 84 ≤ length (now out)) × (3 * count ≤ length (now rows)) × (count ≤ length (now gains)) ⌝ }
+    requires { ⌜ (at + lineRoom ≤ length (now out)) × (5 * count ≤ length (now rows)) × (count ≤ length (now gains)) ⌝ }
     ensures { λ r. ⌜ Written (now (out .entry)) at (lineOf (firstAt (row .0) (recordsIn (now (rows .entry)) (now (gains .entry)) count))) (now (out .exit)) r ⌝ }
-    ensures most { λ r. ⌜ r ≤ at + 84 ⌝ }
+    ensures most { λ r. ⌜ r ≤ at + lineRoom ⌝ }
 {
     match record_of(rows, gains, count, row) {
         Found::Record(cut) => report::put_cut(out, at, cut),
@@ -61,9 +62,9 @@ fn put_lines(
     count: usize,
     cuts: &[usize],
 ) -> usize
-    requires { ⌜ (at + 84 * length (now cuts) ≤ length (now out)) × (3 * count ≤ length (now rows)) × (count ≤ length (now gains)) ⌝ }
+    requires { ⌜ (at + lineRoom * length (now cuts) ≤ length (now out)) × (5 * count ≤ length (now rows)) × (count ≤ length (now gains)) ⌝ }
     ensures { λ r. ⌜ Written (now (out .entry)) at (linesOf (recordsIn (now (rows .entry)) (now (gains .entry)) count) (now (cuts .entry))) (now (out .exit)) r ⌝ }
-    ensures most { λ r. ⌜ r ≤ at + 84 * length (now (cuts .entry)) ⌝ }
+    ensures most { λ r. ⌜ r ≤ at + lineRoom * length (now (cuts .entry)) ⌝ }
 {
     let mut next = at;
     let mut i = 0;
@@ -82,9 +83,9 @@ pub fn put_sheet(
     gains: &[f64],
     cuts: &[usize],
 ) -> usize
-    requires { ⌜ (84 * (counts .cuts + 2) ≤ length (now out)) × (counts .cuts ≤ length (now cuts)) × (3 * counts .records ≤ length (now rows)) × (counts .records ≤ length (now gains)) ⌝ }
+    requires { ⌜ (lineRoom * (counts .cuts + 2) ≤ length (now out)) × (counts .cuts ≤ length (now cuts)) × (5 * counts .records ≤ length (now rows)) × (counts .records ≤ length (now gains)) ⌝ }
     ensures { λ r. ⌜ Written (now (out .entry)) 0 (sheetOf (counts .nodes) (recordsIn (now (rows .entry)) (now (gains .entry)) (counts .records)) (take (counts .cuts) (now (cuts .entry)))) (now (out .exit)) r ⌝ }
-    ensures most { λ r. ⌜ r ≤ 84 * (counts .cuts + 2) ⌝ }
+    ensures most { λ r. ⌜ r ≤ lineRoom * (counts .cuts + 2) ⌝ }
 {
     let k = counts.cuts;
     let first = report::put_cuts(out, 0, k);

@@ -17,11 +17,13 @@ pub fn put_record(rows: &mut [usize], gains: &mut [f64], at: usize, found: GainR
     ensures gains { λ _. ⌜ now (gains .exit) ≡ sets (now (gains .entry)) at (gainsOf (toRecord found ∷ [])) ⌝ }
 {
     let origin = found.origin;
+    let kind = origin.kind();
+    let number = origin.number();
     rows[5 * at] = found.start.0;
     rows[5 * at + 1] = found.stop.0;
     rows[5 * at + 2] = found.best_split.0;
-    rows[5 * at + 3] = origin.kind();
-    rows[5 * at + 4] = origin.number();
+    rows[5 * at + 3] = kind;
+    rows[5 * at + 4] = number;
     gains[at] = found.max_gain;
 }
 

@@ -26,7 +26,7 @@ module _ (deck : Deck) (x : ℕ) where
   -- what the deck's own limits leave, the call takes, but for the row
   pub row-left : DeckClean deck → whyRefusal (askedHeld x (deckMatrix deck) (deckSettings deck)) ≡ past
   unfolding whyRefusal layersTotal every anyPast pairsOf
-  row-left clean = run-passes deck clean (no7 0 0 ∷ no8-draws (deck .n) nothing ∷ no8-row (deck .n) x ∷ [])
+  row-left clean = run-passes deck clean (no7 0 0 ∷ no7 25 25 ∷ no8-draws (deck .n) nothing ∷ no8-row (deck .n) x ∷ [])
 
   pub asked-is : orElse (deckRefusal deck) past ≡ askedRefusal deck x
   unfolding deckRefusal askedRefusal

@@ -7,8 +7,9 @@ use Rattle.scope.specs.Why.{whyOf}
 use Rattle.scope.specs.WhyText.{whyLine, askedRefusal, askedText, whyProgram}
 use Rattle.demand.specs.Printed.{AnswersWhy}
 use Rattle.demand.proofs.Because.{justified}
+use Rattle.demand.proofs.Origins.{origins}
 use Rattle.deck.proofs.Said.{reads-text}
-use Rattle.limits.proofs.Clean.{deck-clean}
+use Rattle.limits.proofs.Clean.{deck-clean, nothing-stored}
 use Rattle.why_answers.proofs.Limits.{asked-free}
 
 line-text : (x : ℕ) (deck : Deck) → askedRefusal deck x ≡ 0 → askedText x deck ≡ whyLine x (whyOf (deckRun deck) x)
@@ -26,5 +27,6 @@ answers x input text is =
             why = whyOf (deckRun deck) x;
             because = justified (deckRun deck) (f .length-fits .0) (f .sizes .rows .0) .so x within;
             line-is = is ∙ reads-text (askedText x) input deck made ∙ line-text x deck free;
+            itself = origins (deckRun deck) (f .length-fits .0) (f .sizes .rows .0) .told-direct (nothing-stored deck) x within;
           };
     }

@@ -4,11 +4,11 @@ use mathlib.Core.List.{List, [], _∷_}
 use Prim.Native.Nat.{ℕ, zero, suc}
 use lib.Ieee.{Float}
 use lib.ListN.{length}
-use Rattle.scope.specs.Refusals.{unless}
+use Rattle.scope.specs.Refusals.{unless, toldUnless}
 use Rattle.scope.specs.Text.{bytes, decimal, line}
 use Rattle.scope.specs.Tree.{Run}
 use Rattle.scope.specs.Program.{orRefused}
-use Rattle.scope.specs.Why.{whyOf, whyCall}
+use Rattle.scope.specs.Why.{textOf, whyOf, whyCall}
 use Rattle.scope.specs.WhyText.{whyLine}
 use Rattle.scope.proofs.Never.{never}
 use Rattle.demand.proofs.Because.{justified}
@@ -28,9 +28,10 @@ use Rattle.why_answers.specs.Answered.{rowNumber, Tells, whyText}
 
 module _ (x : ℕ) (g : Given) (cells : List Float) (forbidden : List ℕ) where
   -- what the call ensures, in the room that the types give, is what `Tells` says
-  pub tells : (before after : Slices) (r : Explained) → length (before .sums) ≡ 2112 → length (before .rows) ≡ 0 → length (before .gains) ≡ 0 → WhyLeft (matrixHeld g cells) (settingsHeld g forbidden) x r before after → Tells x g cells forbidden r
+  pub tells : (before after : Slices) (text₀ text₁ : List ℕ) (r : Explained) → length (before .sums) ≡ 2112 → length (before .rows) ≡ 0 → length (before .gains) ≡ 0 → length text₀ ≡ 25
+      → WhyLeft (matrixHeld g cells) (settingsHeld g forbidden) x r before after text₀ text₁ → Tells x g cells forbidden r
   unfolding rowNumber whyCall
-  tells before after r a b c left = record { answer-is = rw (a, b, c) at (left .answer); because = left .because }
+  tells before after text₀ text₁ r a b c d left = record { answer-is = rw (a, b, c, d) at (left .answer); because = left .because }
 
   abbrev q : Run
   q = runHeld g cells forbidden
@@ -47,15 +48,15 @@ module _ (x : ℕ) (g : Given) (cells : List Float) (forbidden : List ℕ) where
     unfolding whyText
     refused-text k h = rw judged (go (rowNumber x g cells forbidden) (h .answer-is))
       where
-        go : (j : ℕ) → told.Refused k ≡ explainedOf (unless j (whyOf q x)) → line (bytes "refused" ∷ decimal k ∷ []) ≡ orRefused j (whyLine x (whyOf q x))
+        go : (j : ℕ) → told.Refused k ≡ explainedOf (unless j (whyOf q x)) (length (toldUnless j (textOf (whyOf q x)))) → line (bytes "refused" ∷ decimal k ∷ []) ≡ orRefused j (whyLine x (whyOf q x))
         go zero h = never (cc)
         go (suc j) h = let e : k ≡ suc j = cc in rw e
 
     -- what is told is so, and nothing else is: the line is the definitions'
-    pub told-text : (w : Why) → Tells x g cells forbidden (told.Why w) → whyLine x (toWhy w) ≡ whyText x g cells forbidden
+    pub told-text : (w : Why) (long : ℕ) → Tells x g cells forbidden (told.Why w long) → whyLine x (toWhy w) ≡ whyText x g cells forbidden
     unfolding whyText
-    told-text w h = rw judged (go (rowNumber x g cells forbidden) (h .answer-is))
+    told-text w long h = rw judged (go (rowNumber x g cells forbidden) (h .answer-is))
       where
-        go : (j : ℕ) → told.Why w ≡ explainedOf (unless j (whyOf q x)) → whyLine x (toWhy w) ≡ orRefused j (whyLine x (whyOf q x))
-        go zero e = let f = given-clean g forbidden judged in ap (whyLine x) (justified q (f .least) (f .sizes .rows .0) .only x (toWhy w) (h .because w refl))
+        go : (j : ℕ) → told.Why w long ≡ explainedOf (unless j (whyOf q x)) (length (toldUnless j (textOf (whyOf q x)))) → whyLine x (toWhy w) ≡ orRefused j (whyLine x (whyOf q x))
+        go zero e = let f = given-clean g forbidden judged in ap (whyLine x) (justified q (f .least) (f .sizes .rows .0) .only x (toWhy w) (h .because w long refl))
         go (suc j) e = never (cc)

@@ -56,11 +56,11 @@ fn answer_deck(
     }
     match explain(deck, row, cells, forbidden, sums) {
         Explained::Refused(number) => report::put_refused(out, 0, number),
-        Explained::Why(why) => why_text::put_why(out, 0, row, why),
+        Explained::Why(why, _) => why_text::put_why(out, 0, row, why),
     }
 }
 
-// What is told of a row of a deck that is not refused. There are no stored segments, so no room is lent for their records.
+// What is told of a row of a deck that is not refused. There are no stored segments, so no room is lent for their records; of the text the line has its own.
 fn explain(
     deck: Given,
     row: Position,
@@ -73,6 +73,7 @@ fn explain(
 {
     let mut rows = [0usize; 0];
     let mut gains = [0.0; 0];
+    let mut text = [0u8; entry_why::TEXT];
     entry_why::why(
         limits::cells_held(deck, cells),
         deck.n,
@@ -86,5 +87,6 @@ fn explain(
         sums,
         &mut rows,
         &mut gains,
+        &mut text,
     )
 }

@@ -1,10 +1,11 @@
--- `put_lines` meets its contract: the lines of the rows so far stand written, at most 84 bytes each.
+-- `put_lines` meets its contract: the lines of the rows so far stand written, in at most `lineRoom` bytes each.
 use mathlib.Core.Path.{_≡_, refl, _∙_}
 use Prim.Native.Nat.{_+_, _-_, _*_, _≤_}
 use native.Mathlib.Omega.{arith}
 use denote.Ref.{now}
 use lib.ListN.{length, take}
 use Rattle.stored.specs.Flat.{recordsIn}
+use Rattle.report.specs.Fields.{lineRoom}
 use Rattle.report.specs.Written.{Written}
 use Rattle.report.proofs.Texts.{written-then, written-length}
 use Rattle.sheet_text.specs.Lines.{linesOf}
@@ -15,7 +16,7 @@ use Rattle.sheet_text.proofs.put_lines.Tie as tie
 
 abbrev Inv-loop : tie.InvT-loop
 Inv-loop out₀ at rows gains count cuts next₀ i₀ out next i =
-    (i ≤ length cuts) × (next ≤ at + 84 * i) × (length out ≡ length out₀) × Written out₀ at (linesOf (recordsIn rows gains count) (take i cuts)) out next
+    (i ≤ length cuts) × (next ≤ at + lineRoom * i) × (length out ≡ length out₀) × Written out₀ at (linesOf (recordsIn rows gains count) (take i cuts)) out next
 
 abbrev μ-loop : tie.MeasureT-loop
 μ-loop out₀ at rows gains count cuts next₀ i₀ out next i = length cuts - i

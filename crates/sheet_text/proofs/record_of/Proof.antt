@@ -3,7 +3,7 @@ use mathlib.Core.Path.{sym, ap}
 use Prim.Native.Nat.{_-_, _≤_}
 use native.Mathlib.Omega.{arith}
 use Rattle.sheet_text.specs.Lines.{foundOf}
-use Rattle.sheet_text.proofs.Looked.{Unseen, unseen-none, seen, unseen-more, unseen-all}
+use Rattle.sheet_text.proofs.Looked.{Unseen, unseen-none, seen, unseen-more, unseen-all, is-found}
 use borrow.Author.Needs.{needs}
 use Rattle.sheet_text.proofs.record_of.Statement.{statement}
 use Rattle.sheet_text.proofs.record_of.Tie as tie
@@ -18,7 +18,7 @@ loop-holds : tie.Need-loop-holds Inv-loop μ-loop
 loop-holds c = (omega arith, unseen-none)
 
 returns : tie.Need-returns Inv-loop μ-loop
-returns c = sym (ap foundOf (seen (omega arith) (c .before .before .before .record-at .ensures) (c .before .before .before .before .before .loop .inv .1) (c .if1 .taken)))
+returns c = is-found _ _ (seen (omega arith) (c .before .before .before .record-at .ensures) (c .before .before .before .before .before .loop .inv .1) (c .if1 .taken))
 
 loop-again : tie.Need-loop-again Inv-loop μ-loop
 loop-again c = (omega arith, unseen-more (omega arith) (c .before .before .before .record-at .ensures) (c .before .before .before .before .before .loop .inv .1) (c .if1 .left))

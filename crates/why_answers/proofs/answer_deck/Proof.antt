@@ -30,7 +30,8 @@ returns-2 c =
 returns-3 : tie.Need-returns-3
 returns-3 c =
     let s = c .before .before .before .before .before .before .before .before .before .before .before .before .args in
-    let e = told-text (s .row .0) (s .deck) (now (s .cells)) (now (s .forbidden)) (judged (c .before .before .before .before .before .before .before .before .before)) _ (rw (c .before .before .before .why .given .1) at (c .before .before .before .before .before .explain .ensures)) in
+    let given = c .before .before .before .why .given in
+    let e = told-text (s .row .0) (s .deck) (now (s .cells)) (now (s .forbidden)) (judged (c .before .before .before .before .before .before .before .before .before)) (given .0 .0) (given .0 .1 .0) (rw (given .1) at (c .before .before .before .before .before .explain .ensures)) in
     (rw (← e) (c .put-why .ensures .0), omega (arith, c .put-why .ensures .1))
 
 pub answer-deck-spec : {M : Type 1} → statement M

@@ -20,9 +20,9 @@ pairs-held-requires c κs = let f = facts (c .before .before .before .before) in
 
 returns : tie.Need-returns
 returns c =
-    let a = c .before .before .before .before .before .before .before .before .before .before .before .before .before .args in
-    let held = rw (c .before .before .before .before .before .before .before .before .before .before .cells-held .ensures, c .before .before .before .before .before .before .before .before .before .settings .ensures, c .before .before .before .before .before .before .before .before .pairs-held .ensures) at (c .before .before .why .ensures) in
-    tells (a .row .0) (a .deck) (now (a .cells)) (now (a .forbidden)) _ _ _ (omega arith) refl refl held
+    let a = c .before .before .before .before .before .before .before .before .before .before .before .before .before .before .before .args in
+    let held = rw (c .before .before .before .before .before .before .before .before .before .before .before .before .cells-held .ensures, c .before .before .before .before .before .before .before .before .before .before .before .settings .ensures, c .before .before .before .before .before .before .before .before .before .before .pairs-held .ensures) at (c .before .before .before .why .ensures) in
+    tells (a .row .0) (a .deck) (now (a .cells)) (now (a .forbidden)) _ _ _ _ _ (omega arith) refl refl refl held
 
 pub explain-spec : {M : Type 1} → statement M
 explain-spec =
@@ -31,6 +31,7 @@ explain-spec =
     cells-held-requires
     (λ c κs. search needs)
     pairs-held-requires
+    (λ c. search needs)
     (λ c. search needs)
     (λ c. search needs)
     (λ c. search needs)

@@ -1,13 +1,14 @@
 -- `put_barred` meets its contract: its fields, one after another.
 use native.Mathlib.Omega.{arith}
 use Rattle.scope.specs.Text.{bytes, decimal, line}
+use Rattle.report.specs.Fields.{endedBy}
 use Rattle.report.proofs.Texts.{written-then, written-field}
 use borrow.Author.Needs.{needs}
 use Rattle.why_text.proofs.put_barred.Statement.{statement}
 use Rattle.why_text.proofs.put_barred.Tie as tie
 
 returns : tie.Need-returns
-unfolding bytes line
+unfolding bytes line endedBy
 returns c =
     let s = c .before .before .before .before .before .before .before .before .before .before .before .before .before .before .before .before .before .before .before .before .before .before .args in
     let word = c .before .before .before .before .before .before .before .before .before .before .before .before .before .before .before .before .before .before .put-text .ensures in

@@ -1,13 +1,14 @@
 -- `put_row` meets its contract: the word, the row, and the segment's ends.
 use native.Mathlib.Omega.{arith}
-use Rattle.scope.specs.Text.{decimal, line}
+use Rattle.scope.specs.Text.{decimal}
+use Rattle.report.specs.Fields.{endedBy}
 use Rattle.report.proofs.Texts.{written-then, written-field}
 use borrow.Author.Needs.{needs}
 use Rattle.why_text.proofs.put_row.Statement.{statement}
 use Rattle.why_text.proofs.put_row.Tie as tie
 
 returns : tie.Need-returns
-unfolding line
+unfolding endedBy
 returns c =
     let s = c .before .before .before .before .before .before .before .before .before .before .before .before .before .before .args in
     let word = c .before .before .before .before .before .before .before .before .before .before .put-text .ensures in

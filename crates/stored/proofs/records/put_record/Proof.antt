@@ -7,23 +7,18 @@ use borrow.Author.Needs.{needs}
 use Rattle.stored.proofs.records.put_record.Statement.{statement}
 use Rattle.stored.proofs.records.put_record.Tie as tie
 
--- src/records.rt:21:5
 slice-write-rows-2 : tie.Need-slice-write-rows-2
 slice-write-rows-2 c = simp length-set (omega arith)
 
--- src/records.rt:22:5
 slice-write-rows-3 : tie.Need-slice-write-rows-3
 slice-write-rows-3 c = simp length-set (omega arith)
 
--- src/records.rt:23:5
 slice-write-rows-4 : tie.Need-slice-write-rows-4
 slice-write-rows-4 c = simp length-set (omega arith)
 
--- src/records.rt:24:5
 slice-write-rows-5 : tie.Need-slice-write-rows-5
 slice-write-rows-5 c = simp length-set (omega arith)
 
--- src/records.rt:14:1
 returns : tie.Need-returns
 returns c = (rw (add-one, add-two, add-three, add-four, c .before .kind .ensures, c .number .ensures), refl)
 
@@ -31,6 +26,8 @@ pub put-record-spec : {M : Type 1} → statement M
 put-record-spec =
     tie.close
     (tie.spec
+    (λ c κs. search needs)
+    (λ c κs. search needs)
     (λ c. search needs)
     (λ c. search needs)
     (λ c. search needs)
@@ -42,12 +39,10 @@ put-record-spec =
     (λ c. search needs)
     (λ c. search needs)
     slice-write-rows-3
-    (λ c κs. search needs)
     (λ c. search needs)
     (λ c. search needs)
     (λ c. search needs)
     slice-write-rows-4
-    (λ c κs. search needs)
     (λ c. search needs)
     (λ c. search needs)
     (λ c. search needs)

@@ -3,7 +3,6 @@ use borrow.Author.Needs.{needs}
 use Rattle.stored.proofs.records.record_at.Statement.{statement}
 use Rattle.stored.proofs.records.record_at.Tie as tie
 
--- src/records.rt:29:1
 returns : tie.Need-returns
 returns c = rw (c .before .before .before .before .of .ensures)
 
