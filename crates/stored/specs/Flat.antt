@@ -48,6 +48,10 @@ Standing rs rows gains count = Put rs 0 rows gains rows gains count
 abbrev pub liesInside : ℕ → ℕ → Record → Bool
 liesInside start stop r = leb start (r .start) && leb (r .stop) stop
 
+-- and so of the record at a place, whatever its gain
+abbrev pub insideAt : ℕ → ℕ → List ℕ → ℕ → Bool
+insideAt start stop rows k = leb start (getD rows (5 * k) 0) && leb (getD rows (5 * k + 1) 0) stop
+
 -- how many records fit into two slices: five whole numbers and one gain each
 abbrev pub recordRoom : List ℕ → List Float → ℕ
 recordRoom rows gains = min (length rows / 5) (length gains)

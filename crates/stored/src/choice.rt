@@ -2,27 +2,31 @@
 use crate::records;
 use optimizer::optimizer_result::GainRecord;
 ghost use mathlib.Core.Path.{_≡_};
-ghost use Prim.Native.Nat.{_*_, _≤_};
+ghost use Prim.Native.Nat.{_+_, _*_, _<_, _≤_};
 ghost use lib.Ieee.{lt};
 ghost use lib.ListN.{length};
 ghost use Rattle.scope.specs.Grid.{better, best};
 ghost use Rattle.scope.specs.Tree.{inside};
 ghost use Rattle.optimizer.specs.Records.{toRecord};
-ghost use Rattle.stored.specs.Flat.{recordsIn, liesInside};
+ghost use Rattle.stored.specs.Flat.{recordAt, recordsIn, insideAt};
 
-// Whether a record lies inside the segment of another.
-fn lies_inside(stored: GainRecord, direct: GainRecord) -> bool
-    ensures { λ r. ⌜ r ≡ liesInside (direct .start .0) (direct .stop .0) (toRecord stored) ⌝ }
+// Whether the record at a place lies inside the segment of another. Of most records no more is read than their ends.
+fn lies_inside(rows: &[usize], at: usize, direct: GainRecord) -> bool
+    requires { ⌜ 5 * at + 5 ≤ length (now rows) ⌝ }
+    ensures { λ r. ⌜ r ≡ insideAt (direct .start .0) (direct .stop .0) (now (rows .entry)) at ⌝ }
 {
-    direct.start.0 <= stored.start.0 && stored.stop.0 <= direct.stop.0
+    let start = rows[5 * at];
+    let stop = rows[5 * at + 1];
+    direct.start.0 <= start && stop <= direct.stop.0
 }
 
-// A stored record is taken only if its gain is strictly greater: so the direct record and the earlier ones win ties.
-fn stronger(choice: GainRecord, stored: GainRecord) -> GainRecord
-    ensures { λ r. ⌜ toRecord r ≡ better (toRecord choice) (toRecord stored) ⌝ }
+// The record at a place is taken only if its gain is strictly greater: so the direct record and the earlier ones win ties.
+fn stronger(choice: GainRecord, rows: &[usize], gains: &[f64], at: usize) -> GainRecord
+    requires { ⌜ (5 * at + 5 ≤ length (now rows)) × (at < length (now gains)) ⌝ }
+    ensures { λ r. ⌜ toRecord r ≡ better (toRecord choice) (recordAt (now (rows .entry)) (now (gains .entry)) at) ⌝ }
 {
-    if choice.max_gain < stored.max_gain {
-        return stored;
+    if choice.max_gain < gains[at] {
+        return records::record_at(rows, gains, at);
     }
     choice
 }
@@ -35,9 +39,8 @@ pub fn choose(direct: GainRecord, rows: &[usize], gains: &[f64], count: usize) -
     let mut choice = direct;
     let mut k = 0;
     while k < count {
-        let stored = records::record_at(rows, gains, k);
-        if lies_inside(stored, direct) {
-            choice = stronger(choice, stored);
+        if lies_inside(rows, k, direct) {
+            choice = stronger(choice, rows, gains, k);
         }
         k += 1;
     }

@@ -1,5 +1,5 @@
 -- `choose` meets its contract: the choice so far and the records that are left give the choice among all.
-use mathlib.Core.Path.{sym, _∙_, ap, subst}
+use mathlib.Core.Path.{refl, sym, _∙_, ap, subst}
 use mathlib.Core.Logic.{⊎-elim}
 use Prim.Native.Nat.{_+_, _-_, _≤_}
 use native.Mathlib.Omega.{arith}
@@ -21,15 +21,14 @@ loop-holds c = (omega arith, begins)
 
 loop-again : tie.Need-loop-again Inv-loop μ-loop
 loop-again c =
-    let s = c .before .before .before .before .before .before .before .args in
-    let at = c .before .before .before .before .loop in
-    let r = c .before .before .record-at in
+    let s = c .before .before .before .before .before .before .args in
+    let at = c .before .before .before .loop in
     let b = c .before .lies-inside in
     let more = SoFar (now (s .rows)) (now (s .gains)) (s .count) (s .direct .start .0) (s .direct .stop .0) (toRecord (s .direct)) (at .k + 1) in (
       omega arith,
       ⊎-elim
-          (λ w. subst more (sym (ap toRecord (w .2) ∙ w .1 .ensures)) (compared (omega arith) (r .ensures) (at .inv .1) (sym (b .ensures) ∙ w .0 .taken)))
-          (λ w. subst more (sym (ap toRecord (w .1))) (passed (omega arith) (r .ensures) (at .inv .1) (sym (b .ensures) ∙ w .0 .left)))
+          (λ w. subst more (sym (ap toRecord (w .2) ∙ w .1 .ensures)) (compared (omega arith) refl (at .inv .1) (sym (b .ensures) ∙ w .0 .taken)))
+          (λ w. subst more (sym (ap toRecord (w .1))) (passed (omega arith) refl (at .inv .1) (sym (b .ensures) ∙ w .0 .left)))
           (c .if1 .came),
     )
 
@@ -43,7 +42,6 @@ choose-spec =
     Inv-loop
     μ-loop
     loop-holds
-    (λ c κs. search needs)
     (λ c κs. search needs)
     (λ c κs. search needs)
     (λ c. search needs)
