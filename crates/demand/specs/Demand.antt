@@ -46,10 +46,10 @@ pub record Demand (q : Run) : Type 0 where
   -- ---- the choice, among any stored records
   -- the direct record, unless a stored record inside is strictly greater; then the earliest with the greatest
   pub first : (rs : List Record) (start stop : ℕ) (d : Record) → direct q start stop ≡ some d → (c : Record) × (choice q rs start stop ≡ some c) × FirstGreatest d (inside start stop rs) c
-  -- its origin tells where it comes from
-  pub from : (start stop : ℕ) (r : Record) → choice q (storedRecords q) start stop ≡ some r → CameFrom q start stop r
   -- and none where there is no direct record
   pub no-direct : (rs : List Record) (start stop : ℕ) → direct q start stop ≡ none → choice q rs start stop ≡ none
+  -- the choice's origin tells where it comes from
+  pub from : (start stop : ℕ) (r : Record) → choice q (storedRecords q) start stop ≡ some r → CameFrom q start stop r
   -- ---- the records made while the tree grows
   -- they change no choice: the tree is the one that the stored segments' records alone give
   pub unmoved : Grows q 0 (q .n) (treeOf q)

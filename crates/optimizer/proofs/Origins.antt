@@ -1,5 +1,5 @@
 -- The code's origins and records stand for the definitions', one for one; and two numbers in lent memory for an origin. Assumes nothing.
-use mathlib.Core.Path.{_≡_, refl, ap}
+use mathlib.Core.Path.{_≡_, refl}
 use Rattle.scope.specs.Origin.{direct, layer, draw, kindOf, numberOf, originOf}
 use Rattle.scope.specs.Origin as scope
 use Rattle.scope.specs.Grid.{Record}
