@@ -1,21 +1,21 @@
 -- Texts written one after another, the digits of a number, and the most bytes that a number and an origin take. Assumes nothing.
 use mathlib.Core.Path.{_≡_, refl, sym, _∙_, ap}
-use mathlib.Core.Bool.{Bool, true, false, cond}
+use mathlib.Core.Logic.{inr}
 use mathlib.Core.List.{List, [], _∷_, _++_, append-assoc}
 use Prim.Native.Nat.{ℕ, zero, suc, _+_, _-_, _*_, _/_, _%_, _^_, _≤_, _<_}
 use native.Mathlib.Nat.{pow-suc, pow-le-pow-right}
 use native.Mathlib.Numerals.{add-one}
 use native.Mathlib.Decide.{decLe}
 use native.Mathlib.Omega.{arith}
-use lib.Dec.{ltb}
 use lib.ListN.{length, getD, set, take, drop, length-append, drop-of-length-le}
 use lib.Seq.{sets, length-sets, sets-eq, drop-cons, take-at}
 use borrow.Author.Tests.{lt-ltb, le-ltb}
 use Rattle.io.specs.Digits.{digits, Fewest}
 use Rattle.rows.proofs.Stored.{sets-append}
 use Rattle.scope.specs.Lists.{holding}
-use Rattle.scope.specs.Text.{bytes, digit, decimalOf, decimal, hexOf}
+use Rattle.scope.specs.Text.{bytes, decimalOf, decimal, hexOf}
 use Rattle.scope.specs.Origin.{Origin, direct, layer, draw, originText}
+use Rattle.scope.proofs.Digits.{digits-few}
 use Rattle.report.specs.Written.{Written}
 
 -- one text after another
@@ -91,17 +91,8 @@ decimal-fewest (suc k) n f h =
     decimal-digits k 20 n (omega arith) (f .1) (λ z. rw e at (f .2 (omega arith)))
 
 -- ---- the most bytes of a number, and of an origin
-decimal-of-most : (k n : ℕ) → length (decimalOf k n) ≤ k
-unfolding decimalOf
-decimal-of-most zero n = omega arith
-decimal-of-most (suc k) n = go (ltb n 10) (decimal-of-most k (n / 10))
-  where
-    go : (b : Bool) → length (decimalOf k (n / 10)) ≤ k → length (cond b (digit n ∷ []) (decimalOf k (n / 10) ++ (digit (n % 10) ∷ []))) ≤ suc k
-    go true h = omega arith
-    go false h = rw length-append (omega arith)
-
 pub decimal-most : (n : ℕ) → length (decimal n) ≤ 20
-decimal-most n = decimal-of-most 20 n
+decimal-most n = digits-few 19 20 n (inr (omega arith))
 
 pub origin-most : (o : Origin) → length (originText o) ≤ 26
 unfolding originText bytes

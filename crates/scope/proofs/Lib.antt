@@ -15,6 +15,7 @@ pub mod Draws
 pub mod Chosen
 pub mod Why
 pub mod Before
+pub mod Digits
 pub mod Origins
 pub mod Signs
 pub mod Finite

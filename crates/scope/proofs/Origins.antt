@@ -1,21 +1,18 @@
 -- "Drop the field and every answer is what it was", and whatever origins a run's stored segments have; what their origins say; that the text has room. Assumes nothing.
 use mathlib.Core.Path.{_≡_, refl, sym, ap, _∙_}
-use mathlib.Core.Logic.{⊎-elim}
-use mathlib.Core.Bool.{Bool, true, false, cond}
-use mathlib.Core.List.{List, [], _∷_, _++_, map, map-map, List·Memᴰ·not-nil, List·Memᴰ·append-cases, Memᴰ·of-map}
+use mathlib.Core.Logic.{inl, ⊎-elim}
+use mathlib.Core.List.{List, [], _∷_, map, map-map, List·Memᴰ·not-nil, List·Memᴰ·append-cases, Memᴰ·of-map}
 use mathlib.Core.Option.{Option}
-use Prim.Native.Nat.{ℕ, zero, suc, _+_, _*_, _/_, _%_, _^_, _≤_, _<_}
-use native.Mathlib.Nat.{add-zero, pow-suc}
+use Prim.Native.Nat.{ℕ, zero, suc, _+_, _^_, _≤_, _<_}
+use native.Mathlib.Nat.{add-zero}
 use native.Mathlib.Omega.{arith}
-use borrow.Author.Tests.{lt-ltb}
-use lib.Dec.{ltb}
 use lib.Ieee.{Float}
 use lib.ListN.{length, length-append, length-map}
 use Rattle.scope.specs.Lists.{at, _∈_}
 use Rattle.scope.specs.Asked.{Matrix, Shortest, Source, Settings}
 use Rattle.scope.specs.Refusals.{toldUnless, mostLayers}
 use Rattle.scope.specs.Origin.{Origin, direct, layer, draw, originText, originRoom}
-use Rattle.scope.specs.Text.{bytes, digit, decimalOf}
+use Rattle.scope.specs.Text.{bytes}
 use Rattle.scope.specs.Grid.{Record}
 use Rattle.scope.specs.Layers.{StoredSegment, ofOrigin, endsOf, layerCount, layerSegments, seededFrom}
 use Rattle.scope.specs.Draws.{storedSegments}
@@ -24,6 +21,7 @@ use Rattle.scope.specs.Calls.{gainIn, searchIn, segmentsOf, StoredAsked,
 use Rattle.scope.specs.Origins.{bareRecord, bareRecords, bareSegments, bareRun, bareNode, bareStored, bareTold, Dropped, Relabelled, SourceOf, ofLayer, ofDraw, StoredOrigins, Fits, TextFits}
 use Rattle.scope.specs.Origins as origins
 use Rattle.scope.specs.Before as before
+use Rattle.scope.proofs.Digits.{digits-few}
 use Rattle.scope.proofs.Draws.{stored-draws}
 use Rattle.scope.proofs.Before.{bare-search, bare-seeded, bare-stored, bare-drawn, bare-segments, bare-stored-records, bare-choice, bare-verdict, bare-tree, bare-records, bare-count, bare-nodes, bare-cuts, bare-sheet, bare-why}
 
@@ -161,24 +159,12 @@ origins-are find n source s = go (source .draws)
 pub stored-origins : StoredOrigins
 stored-origins = record { are = origins-are }
 
--- ---- the text: a number below 10^(k+1) has at most k+1 digits
-digits-few : (k m v : ℕ) → v < 10 ^ suc k → length (decimalOf m v) ≤ suc k
-unfolding decimalOf
-digits-few k zero v h = omega arith
-digits-few zero (suc m) v h = rw (lt-ltb v 10 (omega arith)) (omega arith)
-digits-few (suc k) (suc m) v h =
-    let below : v < 10 ^ suc k * 10 = rw pow-suc at h in
-    go (ltb v 10) (decimalOf m (v / 10)) (digits-few k m (v / 10) (omega arith))
-  where
-    go : (b : Bool) (front : List ℕ) → length front ≤ suc k → length (cond b (digit v ∷ []) (front ++ (digit (v % 10) ∷ []))) ≤ suc (suc k)
-    go true front l = omega arith
-    go false front l = rw length-append (omega arith)
-
+-- ---- the text
 text-few : (o : Origin) → Fits o → length (originText o) ≤ originRoom
 unfolding originText bytes
 text-few direct h = omega arith
-text-few (layer k) h = rw length-append (omega (arith, digits-few 1 20 k (omega arith)))
-text-few (draw k) h = rw length-append (omega (arith, digits-few 19 20 k (omega arith)))
+text-few (layer k) h = rw length-append (omega (arith, digits-few 1 20 k (inl (omega arith))))
+text-few (draw k) h = rw length-append (omega (arith, digits-few 19 20 k (inl (omega arith))))
 
 source-fits : (n : ℕ) (source : Source) (s : StoredSegment) → length (source .layers) ≤ mostLayers → length (source .draws) ≤ 2 ^ 64 → SourceOf n source s → Fits (s .origin)
 source-fits n source s layers draws (ofLayer k within is m) = rw is (omega arith)

@@ -1,0 +1,177 @@
+//! sizes GENERATE ORACLE CASES: makes the cases of docs/COMPARISON.md's runs, in the file CASES one seed
+//! after another, has them answered by the oracle, and prints what they come to: the page's tables in
+//! Markdown, the numbers of its sentences one to a line.
+
+// Every number that applies to a case, not the lowest alone, is what the oracle's rules say.
+mod closed;
+mod draws;
+mod limits;
+mod origins;
+mod rows;
+#[path = "../oracle/rules.rs"]
+mod rules;
+mod seen;
+mod table;
+
+use protocol::Capacities;
+use seen::Seen;
+use std::collections::BTreeMap;
+use std::fs::File;
+use std::io::{BufRead, BufReader, Result};
+use std::process::{exit, Command, Stdio};
+use table::{Table, SENTENCES};
+
+/// What a run is counted for, beside its origins.
+#[derive(Clone, Copy)]
+enum Part {
+    Limits,
+    Closed,
+    Draws,
+    Rows,
+    Origins,
+}
+
+const ALL: &str = "";
+
+/// Seeds from the first to the last, how many cases of each, the kinds.
+const RUNS: [(Part, u64, u64, u64, &str); 21] = [
+    (Part::Limits, 421, 424, 1_500, "limit edge"),
+    (Part::Limits, 721, 724, 1_500, "closed limit edge"),
+    (Part::Limits, 821, 822, 1_500, "wild stored limit edge"),
+    (Part::Limits, 921, 922, 1_500, "why limit edge"),
+    (Part::Limits, 431, 434, 100, "wide"),
+    (Part::Limits, 731, 734, 100, "closed wide"),
+    (Part::Limits, 831, 832, 100, "wild stored wide"),
+    (Part::Limits, 931, 932, 100, "why wide"),
+    (Part::Closed, 701, 701, 101_000, "closed cand"),
+    (Part::Closed, 702, 702, 101_000, "closed search"),
+    (Part::Closed, 704, 704, 101_000, "closed tree"),
+    (Part::Closed, 705, 705, 101_000, "closed pick"),
+    (Part::Closed, 706, 706, 101_000, "closed guesses"),
+    (Part::Closed, 707, 707, 101_000, "closed perm"),
+    (Part::Draws, 801, 802, 100_000, "wild"),
+    (Part::Draws, 611, 612, 100_000, "stored"),
+    (Part::Draws, 708, 708, 101_000, "closed wild"),
+    (Part::Rows, 901, 902, 100_000, "why"),
+    (Part::Rows, 709, 709, 101_000, "closed why"),
+    (Part::Origins, 101, 110, 100_000, ALL),
+    (Part::Origins, 1_001, 1_001, 101_000, "tree"),
+];
+
+const DRAWS: [&str; 3] = ["wild", "stored", "closed wild"];
+const ROWS: [&str; 2] = ["why", "closed why"];
+
+/// The runs whose origins are counted.
+const ORIGINS: [&str; 8] =
+    [ALL, "tree", "closed tree", "wild", "closed wild", "stored", "why", "closed why"];
+
+/// How often numbers applied together and without others, by column.
+type Together = BTreeMap<&'static str, BTreeMap<Vec<usize>, u64>>;
+
+struct Counts {
+    limits: Table,
+    lengths: Table,
+    draws: Table,
+    refused_draws: Table,
+    rows: Table,
+    refused_rows: Table,
+    origins: Table,
+    sentences: Table,
+    together: Together,
+    /// The rows that the two cases before asked about, and of how many.
+    asked: [(usize, usize); 2],
+}
+
+impl Counts {
+    fn print(&mut self) {
+        for (column, together) in &self.together {
+            for (count, label) in [(1, "one alone"), (2, "two without others")] {
+                let of = together.iter().filter(|(numbers, _)| numbers.len() == count);
+                let cases: Vec<u64> = of.map(|(_, cases)| *cases).collect();
+                let fewest = cases.iter().copied().min().unwrap_or(0);
+                let label = format!("{column}, refusals: {label}, kinds of them; the rarest");
+                self.sentences.add("", &label, [cases.len() as u64, fewest]);
+            }
+        }
+        self.limits.print("At the limits");
+        self.lengths.print("Closed");
+        self.draws.print("Draws");
+        self.refused_draws.print("");
+        self.rows.print("Rows");
+        self.refused_rows.print("");
+        self.origins.print("Origins");
+        self.sentences.rows.sort();
+        self.sentences.print("Sentences");
+    }
+}
+
+/// Has a seed's cases made and answered, and hands each on.
+fn each(
+    [generate, oracle, path]: &[String; 3],
+    (seed, count, kinds): (u64, u64, &str),
+    mut tell: impl FnMut(&Seen),
+) -> Result<()> {
+    let words = [seed.to_string(), count.to_string()];
+    let mut generate = Command::new(generate);
+    generate.args(words).args(kinds.split_whitespace()).stdout(File::create(path)?);
+    let wide = kinds.split(' ').any(|kind| kind == "wide").then_some("--wide");
+    let mut oracle = Command::new(oracle);
+    oracle.args(wide).stdout(Stdio::piped());
+    if !generate.status()?.success() {
+        exit(1)
+    }
+    let mut oracle = oracle.stdin(File::open(path)?).spawn()?;
+    let mut cases = BufReader::new(File::open(path)?);
+    let answers = BufReader::new(oracle.stdout.take().expect("it is piped"));
+    let capacities = if wide.is_some() { Capacities::WIDE } else { Capacities::PAGE };
+    let mut line = vec![];
+    for answer in answers.lines() {
+        line.clear();
+        cases.read_until(b'\n', &mut line)?;
+        if let Some(seen) = Seen::of(&line, capacities, answer?) {
+            tell(&seen);
+        }
+    }
+    if !oracle.wait()?.success() {
+        exit(1)
+    }
+    Ok(())
+}
+
+fn main() -> Result<()> {
+    let arguments: Vec<String> = std::env::args().skip(1).collect();
+    let Ok(paths) = arguments.try_into() else {
+        eprintln!("sizes GENERATE ORACLE CASES");
+        exit(2)
+    };
+    let mut counts = Counts {
+        limits: Table::of(&["gain", "search", "stored", "tree", "wild", "why"]),
+        lengths: Table::of(&["cand", "search", "pick", "guesses", "perm"]),
+        draws: Table::of(&DRAWS),
+        refused_draws: Table::of(&DRAWS),
+        rows: Table::of(&ROWS),
+        refused_rows: Table::of(&ROWS),
+        origins: Table::of(&ORIGINS),
+        sentences: Table::of(&SENTENCES),
+        together: Together::new(),
+        asked: [(0, 0); 2],
+    };
+    for (part, first, last, count, kinds) in RUNS {
+        for seed in first..=last {
+            each(&paths, (seed, count, kinds), |seen| {
+                match part {
+                    Part::Limits => counts.limits(seen, kinds.contains("wide")),
+                    Part::Closed => counts.closed(seen),
+                    Part::Draws => counts.draws(seen, kinds),
+                    Part::Rows => counts.rows(seen, kinds),
+                    Part::Origins => (),
+                }
+                if ORIGINS.contains(&kinds) {
+                    counts.origins(seen, kinds);
+                }
+            })?;
+        }
+    }
+    counts.print();
+    Ok(())
+}
