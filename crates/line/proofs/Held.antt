@@ -10,7 +10,7 @@ use lib.Ieee.{Float, ofInt, binary64}
 use lib.ListN.{length, take, set, length-append, length-map}
 use lib.Seq.{take-all, take-append-le}
 use borrow.Author.Tests.{le-leb, lt-leb, ltb-true, ltb-false, leb-true, leb-false}
-use Rattle.rows.proofs.Stored.{store-more}
+use Rattle.scope.proofs.Lists.{store-more}
 use Rattle.scope.specs.Lists.{every, holding}
 use Rattle.scope.specs.Program.{isReading}
 use Rattle.token.proofs.Tested.{either}

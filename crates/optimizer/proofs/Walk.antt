@@ -16,7 +16,7 @@ use Rattle.scope.specs.Asked.{Shortest, endOf}
 use Rattle.scope.specs.Candidates.{isBarred, rangeSize, candidates, allBarred}
 use Rattle.scope.specs.Grid.{Record, better, best, trial, trials}
 use Rattle.scope.proofs.Lists.{select-append}
-use Rattle.rows.proofs.Stored.{store-more}
+use Rattle.scope.proofs.Lists.{store-more}
 use Rattle.optimizer.specs.Records.{tried}
 
 -- the candidates among the first k rows from lo on

@@ -8,6 +8,8 @@ pub mod Lowest
 pub mod Candidates
 pub mod ClosedEnd
 pub mod Sums
+pub mod Feed
+pub mod Fed
 pub mod Guesses
 pub mod Greatest
 pub mod Stored

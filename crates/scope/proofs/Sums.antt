@@ -1,11 +1,12 @@
 -- The flat prefix sums are the column sums, row after row, from row 0; and the gain over them is the gain by columns. Assumes nothing.
 use mathlib.Core.Path.{_≡_, refl, sym, ap, _∙_}
-use mathlib.Core.List.{List, []}
+use mathlib.Core.List.{List, [], _∷_, _++_}
 use Prim.Native.Nat.{ℕ, zero, suc, _+_, _-_, _*_, _≤_, _<_}
-use native.Mathlib.Nat.{add-zero, mul-le-mul-right, zero-add, suc-mul}
+use native.Mathlib.Nat.{add-zero, add-suc, mul-le-mul-right, zero-add, suc-mul}
+use native.Mathlib.Numerals.{add-one}
 use native.Mathlib.Omega.{arith}
 use lib.Ieee.{Float, nan}
-use lib.ListN.{length, length-append, length-replicate, getD-replicate, List·getD-append}
+use lib.ListN.{length, set, drop, length-append, length-replicate, getD-replicate, List·getD-append}
 use lib.Seq.{getD-at}
 use Rattle.scope.specs.Floats.{whole, +0}
 use Rattle.scope.specs.Lists.{at}
@@ -13,12 +14,22 @@ use Rattle.scope.specs.Sums.{plus, column, flatSums, prefixSums}
 use Rattle.scope.specs.Gain.{term, terms, innerGain, gainOf}
 use Rattle.scope.specs.Columns.{columnTerms, columnGain}
 use Rattle.scope.specs.Calls.{gainIn}
+use Rattle.scope.proofs.Lists.{store-more}
 
 module _ (cells : List Float) (d : ℕ) where
   pub length-flat : (k : ℕ) → length (flatSums cells d k) ≡ d + k
   unfolding flatSums
   length-flat zero = length-replicate d +0 ∙ omega arith
   length-flat (suc k) = length-append (flatSums cells d k) _ ∙ rw (length-flat k) (omega arith)
+
+  -- a cell more: entry d + k is stored from cell k and entry k
+  pub sums-step : (k : ℕ) (l : List Float) {m : List Float} → 0 < d → m ≡ flatSums cells d k ++ drop (d + k) l → d + k < length l
+      → set m (d + k) (plus (at cells k) (at m k)) ≡ flatSums cells d (suc k) ++ drop (d + suc k) l
+  unfolding flatSums
+  sums-step k l some em h =
+      let inside : k < length (flatSums cells d k) = rw length-flat (omega arith) in
+      let here : at (flatSums cells d k ++ drop (d + k) l) k ≡ at (flatSums cells d k) k = List·getD-append (flatSums cells d k) _ nan k inside in
+      rw (em, here) (store-more (flatSums cells d k) l (d + k) _ (length-flat k) h ∙ rw (add-one, add-suc))
 
   -- an entry, once it stands there, stays
   stays : (k j i : ℕ) → i < d + k → at (flatSums cells d (k + j)) i ≡ at (flatSums cells d k) i

@@ -205,17 +205,15 @@ pub record TreeAsked : Type 0 where
 abbrev pub runTests : Matrix → Settings → List Test
 runTests x s = no1 mostRows x ∷ no2 (s .shortest) ∷ no3 (s .threshold) ∷ no4 (x .cells) ∷ no5 (s .forbidden) ∷ sourceTests (s .source)
 
+-- 7: the room of n rows of d columns
+abbrev pub roomTests : ℕ → ℕ → Shortest → Source → Room → List Test
+roomTests n d short source room =
+    let most = mostNodes n short in
+    no7 ((n + 1) * d) (room .sums) ∷ no7 (mostStored source + most) (room .records) ∷ no7 most (room .nodes) ∷ no7 ((most - 1) / 2) (room .cuts) ∷ []
+
 -- up to 7
 abbrev pub treeRoomTests : TreeAsked → List Test
-treeRoomTests a =
-    let s = a .settings in
-    let most = mostNodes (a .matrix .n) (s .shortest) in
-    runTests (a .matrix) s
-    ++ (no7 (sumsRoom (a .matrix)) (a .room .sums)
-    ∷ no7 (mostStored (s .source) + most) (a .room .records)
-    ∷ no7 most (a .room .nodes)
-    ∷ no7 ((most - 1) / 2) (a .room .cuts)
-    ∷ [])
+treeRoomTests a = runTests (a .matrix) (a .settings) ++ roomTests (a .matrix .n) (a .matrix .d) (a .settings .shortest) (a .settings .source) (a .room)
 
 abbrev pub treeTests : TreeAsked → List Test
 treeTests a = treeRoomTests a ++ (no8-draws (a .matrix .n) (a .settings .source) ∷ [])
@@ -223,17 +221,21 @@ treeTests a = treeRoomTests a ++ (no8-draws (a .matrix .n) (a .settings .source)
 unfoldable pub treeRefusal : TreeAsked → ℕ
 treeRefusal a = firstOf (treeTests a)
 
--- the run that is asked for
-abbrev pub runOf : Matrix → Settings → Run
-runOf x s =
+-- a run of n rows over the prefix sums of their d columns
+abbrev pub runOn : List Float → ℕ → ℕ → Settings → Run
+runOn sums n d s =
     record {
-      n = x .n;
+      n = n;
       shortest = s .shortest;
       threshold = s .threshold;
       forbidden = s .forbidden;
-      segments = segmentsOf x (s .shortest) (s .forbidden) (s .source);
-      gain = gainIn x;
+      segments = storedSegments (search (gainOf sums d) (s .shortest) (s .forbidden)) n (s .source);
+      gain = gainOf sums d;
     }
+
+-- the run that is asked for
+abbrev pub runOf : Matrix → Settings → Run
+runOf x s = runOn (sumsOf x) (x .n) (x .d) s
 
 -- how many nodes, records and cuts; "Report the number stored": how many of the records were stored before the tree was grown
 pub record Counts : Type 0 where
@@ -253,17 +255,19 @@ pub record TreeTold : Type 0 where
   pub nodes : List Node
   pub cuts : List ℕ
 
--- what follows where this number applies, or 0
-abbrev pub treeFollows : TreeAsked → ℕ → TreeTold
-treeFollows a number =
-    let q = runOf (a .matrix) (a .settings) in
+-- what follows of a run, with the prefix sums that are told, where this number applies, or 0
+abbrev pub runFollows : Run → List Float → ℕ → TreeTold
+runFollows q sums number =
     record {
       answer = unless number (countsOf q);
-      sums = toldUnless number (sumsOf (a .matrix));
+      sums = toldUnless number sums;
       records = toldUnless number (recordsOf q);
       nodes = toldUnless number (nodes 0 (treeOf q));
       cuts = toldUnless number (sheet (treeOf q));
     }
+
+abbrev pub treeFollows : TreeAsked → ℕ → TreeTold
+treeFollows a number = runFollows (runOf (a .matrix) (a .settings)) (sumsOf (a .matrix)) number
 
 unfoldable pub treeCall : TreeAsked → TreeTold
 treeCall a = treeFollows a (treeRefusal a)

@@ -22,6 +22,8 @@ pub mod Curves
 pub mod Permutations
 pub mod Sorted
 pub mod Calls
+pub mod Feed
+pub mod Fed
 pub mod Why
 pub mod Before
 pub mod Origins

@@ -36,6 +36,11 @@ abbrev pub toldUnless : {A : Type 0} → ℕ → List A → List A
 toldUnless zero l = l
 toldUnless (suc k) l = []
 
+-- what a slice holds afterwards where a call changes it past its first entries: as it was, if the call refuses
+abbrev pub leftUnless : {A : Type 0} → ℕ → List A → List A → List A
+leftUnless zero before after = after
+leftUnless (suc k) before after = before
+
 -- ---- Sizes: "n 1 to 4,096 rows; d 1 to 64 columns; m 1 to 4,096; at most 64 layers; kNN n at most 1,024; at most 999 permutations; 1 to 3 curves"
 abbrev pub mostRows : ℕ
 mostRows = 4096
@@ -63,8 +68,11 @@ unfoldable pub outside : ℕ → ℕ → Bool
 outside most v = ltb v 1 || ltb most v
 
 -- ---- 1: "n or d outside its size, or length not n*d"
+abbrev pub wrongSizes : ℕ → ℕ → ℕ → Bool
+wrongSizes most n d = outside most n || outside mostColumns d
+
 unfoldable pub wrongMatrix : ℕ → List Float → ℕ → ℕ → Bool
-wrongMatrix most cells n d = outside most n || outside mostColumns d || not (eqb (length cells) (n * d))
+wrongMatrix most cells n d = wrongSizes most n d || not (eqb (length cells) (n * d))
 
 abbrev pub no1 : ℕ → Matrix → Test
 no1 most x = test (wrongMatrix most (x .cells) (x .n) (x .d)) 1
@@ -72,6 +80,10 @@ no1 most x = test (wrongMatrix most (x .cells) (x .n) (x .d)) 1
 -- where there is no matrix, n alone
 abbrev pub no1-rows : ℕ → Test
 no1-rows n = test (outside mostRows n) 1
+
+-- or n and d
+abbrev pub no1-sizes : ℕ → ℕ → Test
+no1-sizes n d = test (wrongSizes mostRows n d) 1
 
 -- ---- 2: "m outside its size; or a relative length not strictly between 0 and 0.5 (NaN included)"
 abbrev pub no2 : Shortest → Test

@@ -7,7 +7,7 @@ use denote.Ref.{now}
 use lib.Ieee.{ofBits}
 use lib.ListN.{length, drop, replicate, length-set, length-replicate}
 use Rattle.scope.specs.Floats.{+0}
-use Rattle.rows.proofs.Stored.{store-more}
+use Rattle.scope.proofs.Lists.{store-more}
 use Rattle.change_in_mean.proofs.Cumsum.{replicate-more}
 use borrow.Author.Needs.{needs}
 use Rattle.change_in_mean.proofs.clear_first_row.Statement.{statement}

@@ -11,7 +11,7 @@ use lib.Ieee.{Float}
 use lib.ListN.{length, drop, set, length-set}
 use lib.Seq.{drop-length}
 use Rattle.scope.specs.Neighbours.{squares, distances}
-use Rattle.rows.proofs.Stored.{store-more}
+use Rattle.scope.proofs.Lists.{store-more}
 use Rattle.scope.proofs.Signs.{length-distances}
 use Rattle.distances.proofs.Distances.{row-in}
 use Rattle.distances.proofs.distances_from.Statement.{statement}

@@ -13,7 +13,7 @@ use Rattle.scope.specs.Floats.{_⊘_, whole}
 use Rattle.scope.specs.Lists.{holding, select}
 use Rattle.scope.specs.Rounding.{wholeRoot}
 use Rattle.scope.specs.Neighbours.{orderOf, orders, neighbours, countOf, predictions}
-use Rattle.rows.proofs.Stored.{store-more}
+use Rattle.scope.proofs.Lists.{store-more}
 use Rattle.rounding.proofs.Root.{square-ge, root-is}
 use Rattle.distances.specs.Matrix.{Filled}
 use Rattle.distances.proofs.Distances.{row-in, square-small, length-order, length-orders, order-at}
