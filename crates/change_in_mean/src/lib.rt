@@ -9,9 +9,10 @@ ghost use Rattle.scope.specs.Lists.{holding};
 ghost use Rattle.scope.specs.Sums.{flatSums};
 ghost use Rattle.scope.specs.Gain.{term, terms, gainOf};
 ghost use Rattle.scope.specs.Calls.{gainRefusal};
+ghost use Rattle.scope.specs.Feed.{fedSums};
 
 // C[0] = 0 in every column: the first d sums.
-fn clear_first_row(sums: &mut [f64], d: usize)
+pub fn clear_first_row(sums: &mut [f64], d: usize)
     requires { ⌜ d ≤ length (now sums) ⌝ }
     ensures { λ _. ⌜ now (sums .exit) ≡ replicate d +0 ++ drop d (now (sums .entry)) ⌝ }
 {
@@ -22,17 +23,25 @@ fn clear_first_row(sums: &mut [f64], d: usize)
     }
 }
 
-// The prefix sums of all cells: C[i+1] = (0 + x[i]) + C[i] per column, in one flat pass.
+// The prefix sums of cells that come behind `count` others: C[i+1] = (0 + x[i]) + C[i] per column, in one flat pass. C[i] stands d entries before.
+pub fn add_cells(cells: &[f64], d: usize, count: usize, sums: &mut [f64])
+    requires { ⌜ d + count + length (now cells) ≤ length (now sums) ⌝ }
+    ensures { λ _. ⌜ now (sums .exit) ≡ fedSums (now (cells .entry)) d count (now (sums .entry)) (length (now (cells .entry))) ⌝ }
+{
+    let mut k = 0;
+    while k < cells.len() {
+        sums[d + count + k] = (0.0 + cells[k]) + sums[count + k];
+        k += 1;
+    }
+}
+
+// The prefix sums of all cells.
 pub fn calculate_cumsum(cells: &[f64], d: usize, sums: &mut [f64])
     requires { ⌜ (0 < d) × (d + length (now cells) ≤ length (now sums)) ⌝ }
     ensures { λ _. ⌜ now (sums .exit) ≡ holding (flatSums (now (cells .entry)) d (length (now (cells .entry)))) (now (sums .entry)) ⌝ }
 {
     clear_first_row(sums, d);
-    let mut k = 0;
-    while k < cells.len() {
-        sums[d + k] = (0.0 + cells[k]) + sums[k];
-        k += 1;
-    }
+    add_cells(cells, d, 0, sums);
 }
 
 // t*t with t = (s1*C[stop] + s2*C[start]) - s*C[x], the entries of one column being at stop, start and x.

@@ -11,7 +11,7 @@ ghost use Rattle.scope.specs.Floats.{isFinite};
 ghost use Rattle.scope.specs.Lists.{every};
 ghost use Rattle.scope.specs.Asked.{oneMore, endOf};
 ghost use Rattle.scope.specs.Tree.{mostNodes};
-ghost use Rattle.scope.specs.Refusals.{firstOf, mostRows, outside, wrongMatrix, isBetween, wellPaired, wrongSegment, wrongSplit, no1, no1-rows, no2, no4, no5};
+ghost use Rattle.scope.specs.Refusals.{firstOf, mostRows, outside, wrongSizes, wrongMatrix, isBetween, wellPaired, wrongSegment, wrongSplit, no1, no1-rows, no2, no4, no5};
 ghost use Rattle.control.specs.Settings.{shortestOf};
 
 // Sizes.
@@ -111,15 +111,22 @@ pub fn is_between(low: f64, high: f64, x: f64) -> bool
     low < x && x < high
 }
 
-// Whether the matrix has a size that is refused: n rows, most at most, of d columns.
-pub fn wrong_matrix(cells: &[f64], n: usize, d: usize, most: usize) -> bool
-    requires { ⌜ most ≤ 4096 ⌝ }
-    ensures { λ r. ⌜ r ≡ wrongMatrix most (now (cells .entry)) n d ⌝ }
+// Whether n rows, most at most, of d columns are a size that is refused.
+pub fn wrong_sizes(n: usize, d: usize, most: usize) -> bool
+    ensures { λ r. ⌜ r ≡ wrongSizes most n d ⌝ }
 {
     if is_outside(most, n) {
         return true;
     }
-    if is_outside(MOST_COLUMNS, d) {
+    is_outside(MOST_COLUMNS, d)
+}
+
+// Whether the matrix has a size that is refused, or its cells are not n*d.
+pub fn wrong_matrix(cells: &[f64], n: usize, d: usize, most: usize) -> bool
+    requires { ⌜ most ≤ 4096 ⌝ }
+    ensures { λ r. ⌜ r ≡ wrongMatrix most (now (cells .entry)) n d ⌝ }
+{
+    if wrong_sizes(n, d, most) {
         return true;
     }
     cells.len() != n * d

@@ -1,31 +1,25 @@
--- `wrong_matrix` meets its contract: the three tests, in order; past the first two the product is small.
+-- `wrong_matrix` meets its contract: the sizes, and past them the product, which is small.
 use mathlib.Core.Path.{sym, _∙_}
 use native.Mathlib.Omega.{arith}
 use Rattle.scope.specs.Refusals.{wrongMatrix}
-use Rattle.scope.proofs.Candidates.{not-outside}
-use Rattle.control.proofs.Sizes.{product-small}
+use Rattle.control.proofs.Sizes.{product-small, sizes}
 use borrow.Author.Needs.{needs}
 use Rattle.control.proofs.wrong_matrix.Statement.{statement}
 use Rattle.control.proofs.wrong_matrix.Tie as tie
 
 returns : tie.Need-returns
 unfolding wrongMatrix
-returns c = rw (← c .before .is-outside .ensures, c .if1 .taken)
-
-returns-2 : tie.Need-returns-2
-unfolding wrongMatrix
-returns-2 c = rw (← c .before .before .before .is-outside .ensures, c .before .before .if1 .left, ← c .before .is-outside2 .ensures, c .if2 .taken)
+returns c = rw (← c .before .wrong-sizes .ensures, c .if1 .taken)
 
 mul-result : tie.Need-mul-result
 mul-result c =
-    let s = c .before .before .before .before .before .args in
-    let n = not-outside (s .most) (s .n) (sym (c .before .before .before .is-outside .ensures) ∙ c .before .before .if1 .left) in
-    let d = not-outside 64 (s .d) (sym (c .before .is-outside2 .ensures) ∙ c .if2 .left) in
-    omega (arith, product-small (s .n) (s .d) (omega arith) (omega arith))
+    let s = c .before .before .before .args in
+    let w = sizes (s .most) (s .n) (s .d) (sym (c .before .wrong-sizes .ensures) ∙ c .if1 .left) in
+    omega (arith, product-small (s .n) (s .d) (omega (arith, w .rows)) (w .columns .1))
 
-returns-3 : tie.Need-returns-3
+returns-2 : tie.Need-returns-2
 unfolding wrongMatrix
-returns-3 c = rw (← c .before .before .before .is-outside .ensures, c .before .before .if1 .left, ← c .before .is-outside2 .ensures, c .if2 .left)
+returns-2 c = rw (← c .before .wrong-sizes .ensures, c .if1 .left)
 
 pub wrong-matrix-spec : {M : Type 1} → statement M
 wrong-matrix-spec =
@@ -33,7 +27,5 @@ wrong-matrix-spec =
     (tie.spec
     (λ c κs. search needs)
     returns
-    (λ c κs. search needs)
-    returns-2
     mul-result
-    returns-3)
+    returns-2)

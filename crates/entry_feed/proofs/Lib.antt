@@ -1,0 +1,2 @@
+-- What holds where nothing is refused.
+pub mod Clean

@@ -1,0 +1,2 @@
+-- The code's state, as the definitions'.
+pub mod States
