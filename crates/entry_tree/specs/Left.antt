@@ -6,8 +6,11 @@ use lib.Ieee.{Float}
 use lib.ListN.{length}
 use Rattle.scope.specs.Lists.{holding}
 use Rattle.scope.specs.Asked.{Matrix, Settings}
+use Rattle.scope.specs.Tree.{Run}
 use Rattle.scope.specs.Calls.{TreeTold, runOf, treeCall}
+use Rattle.scope.specs.Feed.{State, FedAsked, fedRun, fedCall}
 use Rattle.demand.specs.Demand.{Demand}
+use Rattle.stored.specs.Flat.{recordRoom}
 use Rattle.segmentation.specs.Segments.{Slices as RecordSlices, Held}
 use Rattle.node.specs.declared.Node.{Node}
 use Rattle.node.specs.Nodes.{toNode}
@@ -28,17 +31,28 @@ pub record Slices : Type 0 where
 abbrev pub recordSlices : Slices → RecordSlices
 recordSlices l = record { sums = l .sums; rows = l .rows; gains = l .gains }
 
--- what follows where these are lent
+-- what was told of the run q: the tree's nodes, its records, its cuts, and the prefix sums
+pub record RunLeft (told : TreeTold) (q : Run) (r : Grown) (before after : Slices) : Type 0 where
+  pub answer : r ≡ grownOf (told .answer)
+  pub held : Held (told .sums) (told .records) (recordSlices before) (recordSlices after)
+  pub nodes : after .nodes ≡ holding (map toNode (told .nodes)) (before .nodes)
+  pub cuts : after .cuts ≡ holding (told .cuts) (before .cuts)
+  pub demand : (c : Counts) (stored : ℕ) → r ≡ grown.Counted c stored → Demand q
+
+-- ---- from a matrix: what follows where these are lent
 abbrev pub treeTold : Matrix → Settings → Slices → TreeTold
 treeTold x s lent = treeCall (treeAsked x s (recordSlices lent) (length (lent .nodes)) (length (lent .cuts)))
 
--- the tree's nodes, its records, its cuts, and the prefix sums
-pub record TreeLeft (x : Matrix) (s : Settings) (r : Grown) (before after : Slices) : Type 0 where
-  pub answer : r ≡ grownOf (treeTold x s before .answer)
-  pub held : Held (treeTold x s before .sums) (treeTold x s before .records) (recordSlices before) (recordSlices after)
-  pub nodes : after .nodes ≡ holding (map toNode (treeTold x s before .nodes)) (before .nodes)
-  pub cuts : after .cuts ≡ holding (treeTold x s before .cuts) (before .cuts)
-  pub demand : (c : Counts) (stored : ℕ) → r ≡ grown.Counted c stored → Demand (runOf x s)
+abbrev pub TreeLeft : Matrix → Settings → Grown → Slices → Slices → Type 0
+TreeLeft x s r before after = RunLeft (treeTold x s before) (runOf x s) r before after
+
+-- ---- from the sums of a fed run, which stay
+abbrev pub fedAsked : State → Settings → Slices → FedAsked
+fedAsked st s lent =
+    record { state = st; settings = s; sums = lent .sums; records = recordRoom (lent .rows) (lent .gains); nodes = length (lent .nodes); cuts = length (lent .cuts) }
+
+abbrev pub FedLeft : State → Settings → Grown → Slices → Slices → Type 0
+FedLeft st s r before after = RunLeft (fedCall (fedAsked st s before)) (fedRun st s (before .sums)) r before after
 
 -- ---- for a caller with no use for the nodes: their room is that of any run's
 abbrev pub pointsTold : Matrix → Settings → RecordSlices → List ℕ → TreeTold

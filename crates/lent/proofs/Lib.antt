@@ -4,6 +4,7 @@ pub mod Relend
 pub mod Data
 pub mod Held
 pub mod First
+pub mod Prefix
 pub mod Locals
 pub mod Walk
 pub mod Calls

@@ -1,20 +1,21 @@
--- What holds where a run is not refused, and where a call for its tree is not. Assumes nothing.
+-- What holds where a run is not refused, and where a call for its tree is not, from its matrix or from the sums of a fed run. Assumes nothing.
 use mathlib.Core.Path.{_≡_}
 use mathlib.Core.Bool.{false}
-use Prim.Native.Nat.{ℕ, _+_, _-_, _/_, _≤_}
+use Prim.Native.Nat.{ℕ, _+_, _-_, _*_, _/_, _≤_}
 use native.Mathlib.Omega.{arith}
 use borrow.Author.Tests.{ltb-false, le-ltb}
 use lib.Dec.{ltb}
 use lib.ListN.{drop}
-use Rattle.scope.specs.Asked.{Matrix, Settings}
-use Rattle.scope.specs.Refusals.{firstOf, wrongLayers}
+use Rattle.scope.specs.Asked.{Matrix, Shortest, Source, Settings}
+use Rattle.scope.specs.Refusals.{mostRows, firstOf, wrongLayers}
 use Rattle.scope.specs.Draws.{mostStored, anyPast}
 use Rattle.scope.specs.Tree.{mostNodes}
-use Rattle.scope.specs.Calls.{sumsRoom, StoredAsked, storedRefusal, runTests, TreeAsked, treeTests, treeRefusal}
+use Rattle.scope.specs.Calls.{sumsRoom, StoredAsked, storedRefusal, Room, runTests, roomTests, TreeAsked, treeTests, treeRefusal}
+use Rattle.scope.specs.Feed.{State, fedRunTests, fedTests, fedRefusal}
 use Rattle.change_in_mean.proofs.Room.{SumsClean, sums-clean}
 use Rattle.scope.proofs.Candidates.{not-outside}
 use Rattle.control.proofs.Clean.{passed, both-pass}
-use Rattle.control.proofs.Sizes.{Matrix as Shape, matrix}
+use Rattle.control.proofs.Sizes.{Sizes, sizes, Matrix as Shape, matrix}
 
 -- no number up to 6 applies to the run
 pub record RunClean (x : Matrix) (s : Settings) : Type 0 where
@@ -29,6 +30,24 @@ run-clean x s e =
     let source = p .1 .1 .1 .1 .1 in
     record {
       shape = matrix 4096 (x .cells) (x .n) (x .d) (p .0);
+      least = not-outside 4096 (s .shortest .m) (p .1 .0);
+      layers = source .1 .0;
+      few = ltb-false 4096 (s .source .W) (source .1 .1 .1 .0);
+    }
+
+-- nor to a fed one
+pub record FedRunClean (st : State) (s : Settings) : Type 0 where
+  pub shape : Sizes 4096 (st .n) (st .d)
+  pub least : (1 ≤ s .shortest .m) × (s .shortest .m ≤ 4096)
+  pub layers : wrongLayers (s .source .layers) ≡ false
+  pub few : s .source .W ≤ 4096
+
+pub fed-run-clean : (st : State) (s : Settings) → firstOf (fedRunTests st s) ≡ 0 → FedRunClean st s
+fed-run-clean st s e =
+    let p = passed (fedRunTests st s) tt e in
+    let source = p .1 .1 .1 .1 in
+    record {
+      shape = sizes 4096 (st .n) (st .d) (p .0);
       least = not-outside 4096 (s .shortest .m) (p .1 .0);
       layers = source .1 .0;
       few = ltb-false 4096 (s .source .W) (source .1 .1 .1 .0);
@@ -62,26 +81,62 @@ run-fits x s sums records e room most past =
           rw (p .0, p .1 .0, values .0, values .1 .0, source .0, source .1 .0, source .1 .1 .0, source .1 .1 .1 .0, room, le-ltb records (mostStored (s .source)) most, past);
     }
 
--- ---- a call for the tree
--- B
-abbrev most : TreeAsked → ℕ
-most a = mostNodes (a .matrix .n) (a .settings .shortest)
+-- ---- there is room for a tree
+pub record Roomy (n d : ℕ) (short : Shortest) (source : Source) (room : Room) : Type 0 where
+  pub sums-fit : (n + 1) * d ≤ room .sums
+  pub records-fit : mostStored source + mostNodes n short ≤ room .records
+  pub nodes-fit : mostNodes n short ≤ room .nodes
+  pub cuts-fit : (mostNodes n short - 1) / 2 ≤ room .cuts
 
+pub roomy : (n d : ℕ) (short : Shortest) (source : Source) (room : Room) → firstOf (roomTests n d short source room) ≡ 0 → Roomy n d short source room
+roomy n d short source room e =
+    let p = passed (roomTests n d short source room) tt e in
+    let most = mostNodes n short in
+    record {
+      sums-fit = ltb-false (room .sums) ((n + 1) * d) (p .0);
+      records-fit = ltb-false (room .records) (mostStored source + most) (p .1 .0);
+      nodes-fit = ltb-false (room .nodes) most (p .1 .1 .0);
+      cuts-fit = ltb-false (room .cuts) ((most - 1) / 2) (p .1 .1 .1 .0);
+    }
+
+-- a tree can be grown: sizes and room
+pub record Growable (n d : ℕ) (short : Shortest) (source : Source) (room : Room) : Type 0 where
+  pub shape : Sizes 4096 n d
+  pub lengths : (1 ≤ short .m) × (short .m ≤ 4096)
+  pub fits : Roomy n d short source room
+
+-- ---- a call for the tree
 pub record TreeClean (a : TreeAsked) : Type 0 where
   pub run : RunFits (a .matrix) (a .settings) (a .room .sums) (a .room .records)
-  pub records-fit : mostStored (a .settings .source) + mostNodes (a .matrix .n) (a .settings .shortest) ≤ a .room .records
-  pub nodes-fit : mostNodes (a .matrix .n) (a .settings .shortest) ≤ a .room .nodes
-  pub cuts-fit : (mostNodes (a .matrix .n) (a .settings .shortest) - 1) / 2 ≤ a .room .cuts
+  pub growable : Growable (a .matrix .n) (a .matrix .d) (a .settings .shortest) (a .settings .source) (a .room)
 
 pub tree-clean : (a : TreeAsked) → treeRefusal a ≡ 0 → TreeClean a
 unfolding treeRefusal
 tree-clean a e =
-    let (run, rest) = both-pass (runTests (a .matrix) (a .settings)) (drop 9 (treeTests a)) tt e in
-    let p = passed (drop 9 (treeTests a)) tt rest in
-    let fit = ltb-false (a .room .records) (mostStored (a .settings .source) + most a) (p .1 .0) in
+    let s = a .settings in
+    let (run, rest) = both-pass (runTests (a .matrix) s) (drop 9 (treeTests a)) tt e in
+    let (room, last) = both-pass (roomTests (a .matrix .n) (a .matrix .d) (s .shortest) (s .source) (a .room)) (drop 13 (treeTests a)) tt rest in
+    let fit = roomy (a .matrix .n) (a .matrix .d) (s .shortest) (s .source) (a .room) room in
+    let w = run-clean (a .matrix) s run in
     record {
-      run = run-fits (a .matrix) (a .settings) (a .room .sums) (a .room .records) run (p .0) (omega (arith, fit)) (p .1 .1 .1 .1 .0);
-      records-fit = fit;
-      nodes-fit = ltb-false (a .room .nodes) (most a) (p .1 .1 .0);
-      cuts-fit = ltb-false (a .room .cuts) ((most a - 1) / 2) (p .1 .1 .1 .0);
+      run = run-fits (a .matrix) s (a .room .sums) (a .room .records) run (le-ltb (a .room .sums) (sumsRoom (a .matrix)) (fit .sums-fit)) (omega (arith, fit .records-fit)) (passed (drop 13 (treeTests a)) tt last .0);
+      growable = record { shape = record { rows = w .shape .rows; columns = w .shape .columns }; lengths = w .least; fits = fit };
+    }
+
+-- ---- a call for the later sheet
+pub record FedClean (st : State) (s : Settings) (room : Room) : Type 0 where
+  pub run : FedRunClean st s
+  pub growable : Growable (st .n) (st .d) (s .shortest) (s .source) room
+  pub within : anyPast (st .n) (s .source .draws) ≡ false
+
+pub fed-clean : (st : State) (s : Settings) (room : Room) → fedRefusal st s room ≡ 0 → FedClean st s room
+unfolding fedRefusal
+fed-clean st s room e =
+    let (run, rest) = both-pass (fedRunTests st s) (drop 8 (fedTests st s room)) tt e in
+    let (fits, last) = both-pass (roomTests (st .n) (st .d) (s .shortest) (s .source) room) (drop 12 (fedTests st s room)) tt rest in
+    let w = fed-run-clean st s run in
+    record {
+      run = w;
+      growable = record { shape = w .shape; lengths = w .least; fits = roomy (st .n) (st .d) (s .shortest) (s .source) room fits };
+      within = passed (drop 12 (fedTests st s room)) tt last .0;
     }

@@ -190,7 +190,7 @@ fn store_draws(
 }
 
 // The stored records: those of the draws where there are any, else those of the layers. Tells how many.
-fn store_records(
+pub fn store_records(
     sums: &[f64],
     n: usize,
     d: usize,

@@ -13,7 +13,7 @@ use Rattle.control.specs.Settings.{settingsOf}
 use Rattle.segmentation.specs.Segments.{Slices, Held}
 use Rattle.reasons.specs.Answers.{fromWhy}
 use Rattle.report.proofs.Texts.{written-length}
-use Rattle.prepared.proofs.Stands.{segments, Stands, stands}
+use Rattle.prepared.proofs.Stands.{segments, Stands, matrix-stands}
 use Rattle.entry_why.specs.Left.{whyAsked}
 use Rattle.entry_why.proofs.Clean.{WhyClean, why-clean}
 use Rattle.entry_why.proofs.Told.{refused-told, text-fits, told}
@@ -68,8 +68,8 @@ counted : (c : tie.After-sums-len) → c .before .before .before .before .before
 unfolding storedRecords
 counted c = c .before .before .before .before .before .before .before .store-segments .ensures .count
 
-standing : (c : tie.After-sums-len) → let s = c .before .before .before .before .before .before .before .before .before .before .before .before .before .before .before .before .before .before .before .before .before .before .before in Stands (matrix s) (s .args .settings) (now (s .args .forbidden)) (source s) (front c) (c .sums-len .result) (c .before .before .before .before .before .before .before .store-segments .result)
-standing c = let s = c .before .before .before .before .before .before .before .before .before .before .before .before .before .before .before .before .before .before .before .before .before .before .before in stands (matrix s) (s .args .settings) (now (s .args .forbidden)) (source s) (lent s) (front c) (clean (c .before .before .before .before .before .before .before .before .before .before .before .before) .run .sums-fit) (held c) _ _ (c .sums-len .ensures) (counted c)
+standing : (c : tie.After-sums-len) → let s = c .before .before .before .before .before .before .before .before .before .before .before .before .before .before .before .before .before .before .before .before .before .before .before in Stands (sumsOf (matrix s)) (s .args .n) (s .args .d) (s .args .settings) (now (s .args .forbidden)) (source s) (front c) (c .sums-len .result) (c .before .before .before .before .before .before .before .store-segments .result)
+standing c = let s = c .before .before .before .before .before .before .before .before .before .before .before .before .before .before .before .before .before .before .before .before .before .before .before in matrix-stands (matrix s) (s .args .settings) (now (s .args .forbidden)) (source s) (lent s) (front c) (clean (c .before .before .before .before .before .before .before .before .before .before .before .before) .run .sums-fit) (held c) _ _ (c .sums-len .ensures) (counted c)
 
 slice-reshare-prefix-explain : tie.Need-slice-reshare-prefix-explain
 slice-reshare-prefix-explain c = omega (arith, clean (c .before .before .before .before .before .before .before .before .before .before .before .before) .run .sums-fit .fits, c .sums-len .ensures)
@@ -86,7 +86,7 @@ explain-requires c κs =
       w .row-within,
       record {
         least = w .run .lengths .0;
-        segments = segments (matrix s) (s .args .settings) (now (s .args .forbidden)) (source s);
+        segments = segments (sumsOf (matrix s)) (s .args .n) (s .args .d) (s .args .settings) (now (s .args .forbidden)) (source s);
         stand = st .records;
         room-rows = omega (arith, st .few, w .records-fit);
         room-gains = omega (arith, st .few, w .records-fit);
@@ -98,7 +98,7 @@ told-is : (c : tie.After-explain) → let s = c .before .before .before .before 
 told-is c =
     let s = c .before .before .before .before .before .before .before .before .before .before .before .before .before .before .before .before .before .before .before .before .before .before .before .before .before .before .before in
     let st = standing (c .before .before .before .before) in
-    rw (st .part) at (c .explain .ensures (segments (matrix s) (s .args .settings) (now (s .args .forbidden)) (source s)) (st .records))
+    rw (st .part) at (c .explain .ensures (segments (sumsOf (matrix s)) (s .args .n) (s .args .d) (s .args .settings) (now (s .args .forbidden)) (source s)) (st .records))
 
 -- a list of draws is counted in 64 bits
 draws-counted : (s : tie.Start) → length (now (s .args .draws)) ≤ 2 ^ 64

@@ -1,15 +1,17 @@
 -- `prepare` meets its contract: a number, and nothing is told; or the records of the stored segments, with the sums left.
 use mathlib.Core.Path.{_≡_, sym, _∙_, ap}
+use mathlib.Core.List.{List}
 use Prim.Native.Nat.{ℕ}
 use denote.Ref.{now}
 use lib.ListN.{length}
+use Rattle.scope.specs.Grid.{Record}
 use Rattle.scope.specs.Tree.{storedRecords}
-use Rattle.scope.specs.Calls.{sumsOf, sumsRoom, TreeAsked, treeRefusal}
+use Rattle.scope.specs.Calls.{sumsOf, sumsRoom, TreeAsked, runOf, treeRefusal}
 use Rattle.control.specs.Settings.{settingsOf}
 use Rattle.control.proofs.Follows.{answer-refused, answer-given}
 use Rattle.segmentation.specs.Segments.{Slices}
 use Rattle.segmentation.proofs.Held.{none-held, all-held}
-use Rattle.prepared.specs.Answers.{treeAsked, recordsBefore, preparedOf}
+use Rattle.prepared.specs.Answers.{treeAsked, preparedOf}
 use Rattle.prepared.specs.declared.Prepared.the-variants.{Stored}
 use Rattle.prepared.proofs.Clean.{tree-clean}
 use borrow.Author.Needs.{needs}
@@ -23,6 +25,10 @@ abbrev asked : tie.Start → TreeAsked
 asked s =
     let a = s .args in
     treeAsked (record { cells = now (a .cells); n = a .n; d = a .d }) (settingsOf (a .settings) (now (a .forbidden)) (record { layers = now (a .layers); draws = now (a .draws); W = a .w })) (lent s) (a .nodes) (a .cuts)
+
+-- the stored segments' records
+abbrev recordsBefore : TreeAsked → List Record
+recordsBefore a = storedRecords (runOf (a .matrix) (a .settings))
 
 -- the number is that of what is asked
 number : (c : tie.After-tree-refusal) → c .tree-refusal .result ≡ treeRefusal (asked (c .before .before .before .before .before .before .before .before .before))
@@ -45,7 +51,7 @@ store-segments-requires : tie.Need-store-segments-requires
 store-segments-requires c κs = tree-clean (asked (c .before .before .before .before .before .before .before .before .before .before .before .before .before .before)) (none-refused (c .before .before .before .before)) .run .segments
 
 sums-len-requires : tie.Need-sums-len-requires
-sums-len-requires c κs = let f = tree-clean (asked (c .before .before .before .before .before .before .before .before .before .before .before .before .before .before .before .before .before .before .before .before .before)) (none-refused (c .before .before .before .before .before .before .before .before .before .before .before)) in (f .run .sums-fit .shape .rows .1, f .run .sums-fit .shape .columns .1)
+sums-len-requires c κs = let f = tree-clean (asked (c .before .before .before .before .before .before .before .before .before .before .before .before .before .before .before .before .before .before .before .before .before)) (none-refused (c .before .before .before .before .before .before .before .before .before .before .before)) in (f .growable .shape .rows .1, f .growable .shape .columns .1)
 
 returns-2 : tie.Need-returns-2
 unfolding storedRecords

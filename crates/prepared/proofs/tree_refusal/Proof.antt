@@ -1,119 +1,60 @@
--- `tree_refusal` meets its contract: past the run's tests and each of those after, the number is that of the tests left.
+-- `tree_refusal` meets its contract: past the run's tests, past the room's and past that of the draws, the number is that of the tests left.
 use mathlib.Core.Path.{_≡_, sym, _∙_}
 use mathlib.Core.Bool.{true, false}
 use mathlib.Core.List.{List, [], _∷_}
-use Prim.Native.Nat.{ℕ, _+_, _-_, _*_, _/_}
-use native.Mathlib.Omega.{arith}
-use borrow.Author.Tests.{lt-ltb, le-ltb}
+use Prim.Native.Nat.{ℕ}
 use denote.Ref.{now}
-use lib.ListN.{drop}
-use Rattle.scope.specs.Asked.{Matrix, Settings}
+use lib.ListN.{take, drop}
 use Rattle.scope.specs.Refusals.{Test, firstOf}
-use Rattle.scope.specs.Draws.{mostStored}
-use Rattle.scope.specs.Tree.{mostNodes}
-use Rattle.scope.specs.Calls.{runTests, treeTests, treeRefusal}
+use Rattle.scope.specs.Calls.{TreeAsked, runTests, treeTests, treeRefusal}
 use Rattle.control.specs.Settings.{settingsOf}
 use Rattle.control.proofs.Clean.{answers, stops, passes}
-use Rattle.draws.proofs.Given.{stored-most}
 use Rattle.prepared.proofs.Clean.{RunClean, run-clean}
 use borrow.Author.Needs.{needs}
 use Rattle.prepared.proofs.tree_refusal.Statement.{statement}
 use Rattle.prepared.proofs.tree_refusal.Tie as tie
 
-abbrev matrix : tie.Start → Matrix
-matrix s = record { cells = now (s .args .cells); n = s .args .n; d = s .args .d }
+abbrev asked : tie.Start → TreeAsked
+asked s =
+    let a = s .args in
+    record {
+      matrix = record { cells = now (a .cells); n = a .n; d = a .d };
+      settings = settingsOf (a .settings) (now (a .forbidden)) (record { layers = now (a .layers); draws = now (a .draws); W = a .w });
+      room = record { sums = a .sums; records = a .records; nodes = a .nodes; cuts = a .cuts };
+    }
 
-abbrev settings : tie.Start → Settings
-settings s = let a = s .args in settingsOf (a .settings) (now (a .forbidden)) (record { layers = now (a .layers); draws = now (a .draws); W = a .w })
-
--- the run's tests, and those from the k-th on
-abbrev run : tie.Start → List Test
-run s = runTests (matrix s) (settings s)
-
+-- the tests from the k-th on: nine of the run, four of the room, one of the draws
 abbrev from : tie.Start → ℕ → List Test
-from s k = let a = s .args in drop k (treeTests (record { matrix = matrix s; settings = settings s; room = record { sums = a .sums; records = a .records; nodes = a .nodes; cuts = a .cuts } }))
-
--- B, and T
-abbrev most : tie.Start → ℕ
-most s = mostNodes (s .args .n) (settings s .shortest)
-
-abbrev total : tie.Start → ℕ
-total s = mostStored (settings s .source)
+from s k = drop k (treeTests (asked s))
 
 -- the run is not refused
-clean : (c : tie.Else1) → RunClean (matrix (c .before .before .before .before .before .before)) (settings (c .before .before .before .before .before .before))
-clean c = run-clean (matrix (c .before .before .before .before .before .before)) (settings (c .before .before .before .before .before .before)) (sym (c .before .run-refusal .ensures) ∙ c .if1 .left)
+clean : (c : tie.Else1) → RunClean (asked (c .before .before .before .before .before .before) .matrix) (asked (c .before .before .before .before .before .before) .settings)
+clean c = let a = asked (c .before .before .before .before .before .before) in run-clean (a .matrix) (a .settings) (sym (c .before .run-refusal .ensures) ∙ c .if1 .left)
 
 left9 : (c : tie.Else1) → firstOf (from (c .before .before .before .before .before .before) 9) ≡ firstOf (from (c .before .before .before .before .before .before) 0)
-left9 c = sym (passes (run (c .before .before .before .before .before .before)) (from (c .before .before .before .before .before .before) 9) tt (sym (c .before .run-refusal .ensures) ∙ c .if1 .left))
+left9 c = sym (passes (take 9 (from (c .before .before .before .before .before .before) 0)) (from (c .before .before .before .before .before .before) 9) tt (sym (c .before .run-refusal .ensures) ∙ c .if1 .left))
 
-left10 : (c : tie.Else2) → firstOf (from (c .before .before .before .before .before .before .before .before) 10) ≡ firstOf (from (c .before .before .before .before .before .before .before .before) 0)
-left10 c =
-    let s = c .before .before .before .before .before .before .before .before in
-    answers (from s 9) (false ∷ []) (le-ltb (s .args .sums) ((s .args .n + 1) * s .args .d) (rw (← c .before .sums-len .ensures) (c .if2 .left)), tt) ∙ left9 (c .before .before)
-
-left11 : (c : tie.Else3) → firstOf (from (c .before .before .before .before .before .before .before .before .before .before .before .before) 11) ≡ firstOf (from (c .before .before .before .before .before .before .before .before .before .before .before .before) 0)
-left11 c =
-    let s = c .before .before .before .before .before .before .before .before .before .before .before .before in
-    answers (from s 10) (false ∷ []) (le-ltb (s .args .records) (total s + most s) (rw (← c .before .before .most-nodes .ensures .0, ← c .before .most-stored .ensures) (c .if3 .left)), tt) ∙ left10 (c .before .before .before .before)
-
-left12 : (c : tie.Else4) → firstOf (from (c .before .before .before .before .before .before .before .before .before .before .before .before .before) 12) ≡ firstOf (from (c .before .before .before .before .before .before .before .before .before .before .before .before .before) 0)
-left12 c =
-    let s = c .before .before .before .before .before .before .before .before .before .before .before .before .before in
-    answers (from s 11) (false ∷ []) (le-ltb (s .args .nodes) (most s) (rw (← c .before .before .before .most-nodes .ensures .0) (c .if4 .left)), tt) ∙ left11 (c .before)
-
-left13 : (c : tie.Else5) → firstOf (from (c .before .before .before .before .before .before .before .before .before .before .before .before .before .before) 13) ≡ firstOf (from (c .before .before .before .before .before .before .before .before .before .before .before .before .before .before) 0)
-left13 c =
-    let s = c .before .before .before .before .before .before .before .before .before .before .before .before .before .before in
-    answers (from s 12) (false ∷ []) (le-ltb (s .args .cuts) ((most s - 1) / 2) (rw (← c .before .before .before .before .most-nodes .ensures .0) (c .if5 .left)), tt) ∙ left12 (c .before)
+left13 : (c : tie.Else2) → firstOf (from (c .before .before .before .before .before .before .before .before .before) 13) ≡ firstOf (from (c .before .before .before .before .before .before .before .before .before) 0)
+left13 c = sym (passes (take 4 (from (c .before .before .before .before .before .before .before .before .before) 9)) (from (c .before .before .before .before .before .before .before .before .before) 13) tt (sym (c .before .room-refusal .ensures) ∙ c .if2 .left)) ∙ left9 (c .before .before .before)
 
 returns : tie.Need-returns
 unfolding treeRefusal
-returns c = let no = c .before .run-refusal in no .ensures ∙ stops (run (c .before .before .before .before .before .before)) (from (c .before .before .before .before .before .before) 9) (λ z. c .if1 .taken (no .ensures ∙ z))
+returns c = let no = c .before .run-refusal in no .ensures ∙ stops (take 9 (from (c .before .before .before .before .before .before) 0)) (from (c .before .before .before .before .before .before) 9) (λ z. c .if1 .taken (no .ensures ∙ z))
 
-sums-len-requires : tie.Need-sums-len-requires
-sums-len-requires c κs = let w = clean c .shape in (w .rows .1, w .columns .1)
+room-refusal-requires : tie.Need-room-refusal-requires
+room-refusal-requires c κs = let w = clean (c .before) in (w .shape .rows .1, w .shape .columns .1, w .least .0, w .layers, w .few)
 
 returns-2 : tie.Need-returns-2
 unfolding treeRefusal
-returns-2 c =
-    let s = c .before .before .before .before .before .before .before .before in
-    answers (from s 9) (true ∷ []) (lt-ltb (s .args .sums) ((s .args .n + 1) * s .args .d) (rw (← c .before .sums-len .ensures) (c .if2 .taken)), tt) ∙ left9 (c .before .before)
-
-most-nodes-requires : tie.Need-most-nodes-requires
-most-nodes-requires c κs = let w = clean (c .before .before .before) in (w .shape .rows .1, w .least .0)
-
-most-stored-requires : tie.Need-most-stored-requires
-most-stored-requires c κs = clean (c .before .before .before .before) .layers
-
-add-if3 : tie.Need-add-if3
-add-if3 c = let w = clean (c .before .before .before .before .before) in omega (arith, c .most-stored .ensures, c .before .most-nodes .ensures, stored-most (settings (c .before .before .before .before .before .before .before .before .before .before .before) .source) (w .layers) (w .few))
+returns-2 c = let no = c .before .room-refusal in no .ensures ∙ stops (take 4 (from (c .before .before .before .before .before .before .before .before .before) 9)) (from (c .before .before .before .before .before .before .before .before .before) 13) (λ z. c .if2 .taken (no .ensures ∙ z)) ∙ left9 (c .before .before .before)
 
 returns-3 : tie.Need-returns-3
 unfolding treeRefusal
-returns-3 c =
-    let s = c .before .before .before .before .before .before .before .before .before .before .before .before in
-    answers (from s 10) (true ∷ []) (lt-ltb (s .args .records) (total s + most s) (rw (← c .before .before .most-nodes .ensures .0, ← c .before .most-stored .ensures) (c .if3 .taken)), tt) ∙ left10 (c .before .before .before .before)
+returns-3 c = answers (from (c .before .before .before .before .before .before .before .before .before .before .before) 13) (true ∷ []) (sym (c .before .any-past .ensures) ∙ c .if3 .taken, tt) ∙ left13 (c .before .before)
 
 returns-4 : tie.Need-returns-4
 unfolding treeRefusal
-returns-4 c =
-    let s = c .before .before .before .before .before .before .before .before .before .before .before .before .before in
-    answers (from s 11) (true ∷ []) (lt-ltb (s .args .nodes) (most s) (rw (← c .before .before .before .most-nodes .ensures .0) (c .if4 .taken)), tt) ∙ left11 (c .before)
-
-returns-5 : tie.Need-returns-5
-unfolding treeRefusal
-returns-5 c =
-    let s = c .before .before .before .before .before .before .before .before .before .before .before .before .before .before in
-    answers (from s 12) (true ∷ []) (lt-ltb (s .args .cuts) ((most s - 1) / 2) (rw (← c .before .before .before .before .most-nodes .ensures .0) (c .if5 .taken)), tt) ∙ left12 (c .before)
-
-returns-6 : tie.Need-returns-6
-unfolding treeRefusal
-returns-6 c = answers (from (c .before .before .before .before .before .before .before .before .before .before .before .before .before .before .before .before) 13) (true ∷ []) (sym (c .before .any-past .ensures) ∙ c .if6 .taken, tt) ∙ left13 (c .before .before)
-
-returns-7 : tie.Need-returns-7
-unfolding treeRefusal
-returns-7 c = answers (from (c .before .before .before .before .before .before .before .before .before .before .before .before .before .before .before .before) 13) (false ∷ []) (sym (c .before .any-past .ensures) ∙ c .if6 .left, tt) ∙ left13 (c .before .before)
+returns-4 c = answers (from (c .before .before .before .before .before .before .before .before .before .before .before) 13) (false ∷ []) (sym (c .before .any-past .ensures) ∙ c .if3 .left, tt) ∙ left13 (c .before .before)
 
 pub tree-refusal-spec : {M : Type 1} → statement M
 tree-refusal-spec =
@@ -121,15 +62,8 @@ tree-refusal-spec =
     (tie.spec
     (λ c κs. search needs)
     returns
-    sums-len-requires
+    room-refusal-requires
     returns-2
-    most-nodes-requires
-    most-stored-requires
-    add-if3
-    returns-3
-    returns-4
-    (λ c. search needs)
-    returns-5
     (λ c κs. search needs)
-    returns-6
-    returns-7)
+    returns-3
+    returns-4)
