@@ -2,29 +2,30 @@
 use mathlib.Core.Path.{_≡_, refl, _∙_, ap, subst}
 use mathlib.Core.Bool.{Bool, true, false, cond}
 use mathlib.Core.List.{List, [], _∷_, _++_, map, append-nil}
-use Prim.Native.Nat.{ℕ, zero, suc, _-_, _/_, _≤_}
+use Prim.Native.Nat.{ℕ, zero, suc, _-_, _/_, _≤_, _<_}
 use native.Mathlib.Omega.{arith}
 use borrow.Author.Tests.{lt-ltb, ltb-false}
 use lib.Dec.{T, ltb}
+use lib.Ieee.{Float}
 use lib.ListN.{length, take, drop}
 use lib.Seq.{length-take-le, take-length, drop-length}
 use Rattle.scope.specs.Lists.{holding}
 use Rattle.scope.specs.Asked.{Matrix, Settings}
-use Rattle.scope.specs.Refusals.{Test, test, firstOf, Answer, refused, given, unless, toldUnless}
+use Rattle.scope.specs.Refusals.{Test, test, firstOf, Answer, refused, given, unless, toldUnless, no7}
 use Rattle.scope.specs.Draws.{no8-draws}
 use Rattle.scope.specs.Tree.{Run, treeOf, recordsOf, Node, nodes, sheet, mostNodes}
-use Rattle.scope.specs.Calls.{sumsOf, TreeAsked, treeRoomTests, treeTests, treeRefusal, treeCall, Counts, countsOf, runOf, countedRefusal, countedCall, countsTold}
+use Rattle.scope.specs.Calls.{sumsOf, treeTests, treeRefusal, treeCall, Counts, countsOf, runOf, runFollows, countedRefusal, countedCall, countsTold}
+use Rattle.scope.specs.Feed.{State, fedLastTests, fedTests, fedRefusal, fedRoom, fedRun, fedCall, fedCountedRefusal, fedCountedCall}
 use Rattle.control.proofs.Clean.{Numbered}
-use Rattle.stored.specs.Flat.{recordRoom}
 use Rattle.segmentation.specs.Segments.{Held}
 use Rattle.node.specs.Nodes.{toNode}
 use Rattle.demand.specs.Demand.{Demand}
 use Rattle.prepared.specs.Answers.{treeAsked}
 use Rattle.entry_tree.specs.declared.Grown.{Grown}
 use Rattle.entry_tree.specs.Answers.{grownOf}
-use Rattle.entry_tree.specs.Left.{Slices, recordSlices, TreeLeft}
+use Rattle.entry_tree.specs.Left.{Slices, recordSlices, RunLeft, TreeLeft, fedAsked, FedLeft}
 use Rattle.told.specs.Told.{numberOf, countedRoom, fourIn, grownNumber, grownCounts, GrownTold}
-use Rattle.changeforest_c.specs.Stored.{TreeStored}
+use Rattle.changeforest_c.specs.Stored.{RunStored, TreeStored, FedStored}
 
 -- ---- the number
 -- the same tests in front give the same number, where the others do
@@ -38,36 +39,42 @@ sevens true q ts us = refl
 sevens false true ts us = refl
 sevens false false ts us = refl
 
-module _ (x : Matrix) (s : Settings) (sums records cuts : ℕ) where
-  abbrev with : ℕ → TreeAsked
-  with nodes = record { matrix = x; settings = s; room = record { sums = sums; records = records; nodes = nodes; cuts = cuts } }
+-- the room for nodes that is lent on, beside that for cuts, and the room for counts in its place: `before` are the tests before, `last` those behind
+module _ (before last : List Test) (most nodes counts : ℕ) (cuts : Bool) (some : 0 < most) where
+  abbrev entry : ℕ
+  entry = firstOf (before ++ (no7 most (countedRoom nodes counts) ∷ test cuts 7 ∷ last))
 
-  no-nodes : ltb 0 (mostNodes (x .n) (s .shortest)) ≡ true
-  no-nodes = lt-ltb 0 (mostNodes (x .n) (s .shortest)) (omega arith)
+  abbrev host : ℕ
+  host = firstOf (before ++ (no7 most nodes ∷ test cuts 7 ∷ no7 4 counts ∷ last))
 
-  pub counted-number : (nodes counts : ℕ) → treeRefusal (with (countedRoom nodes counts)) ≡ countedRefusal (with nodes) counts
-  unfolding treeRefusal countedRefusal countedRoom
-  counted-number nodes counts = go (ltb counts 4)
+  counted-number : entry ≡ host
+  unfolding countedRoom
+  counted-number = go (ltb counts 4)
     where
-      go : (b : Bool) → firstOf (treeTests (with (cond b 0 nodes))) ≡ firstOf (treeRoomTests (with nodes) ++ (test b 7 ∷ no8-draws (x .n) (s .source) ∷ []))
-      go true =
-          let ts = treeTests (with nodes) in
-          let most = mostNodes (x .n) (s .shortest) in
-          let last = no8-draws (x .n) (s .source) ∷ [] in
-          rw no-nodes (under (take 11 ts) (test true 7 ∷ drop 12 ts) (drop 11 (treeRoomTests (with nodes)) ++ (test true 7 ∷ last)) (sevens (ltb nodes most) (ltb cuts ((most - 1) / 2)) (drop 12 ts) last))
-      go false = under (treeRoomTests (with nodes)) (no8-draws (x .n) (s .source) ∷ []) (test false 7 ∷ no8-draws (x .n) (s .source) ∷ []) refl
+      go : (b : Bool) → firstOf (before ++ (no7 most (cond b 0 nodes) ∷ test cuts 7 ∷ last)) ≡ firstOf (before ++ (no7 most nodes ∷ test cuts 7 ∷ test b 7 ∷ last))
+      go true = rw (lt-ltb 0 most some) (under before (test true 7 ∷ test cuts 7 ∷ last) (no7 most nodes ∷ test cuts 7 ∷ test true 7 ∷ last) (sevens (ltb nodes most) cuts (test cuts 7 ∷ last) last))
+      go false = under before (no7 most nodes ∷ test cuts 7 ∷ last) (no7 most nodes ∷ test cuts 7 ∷ test false 7 ∷ last) (passed-by (ltb nodes most) cuts)
+        where
+          passed-by : (p q : Bool) → firstOf (test p 7 ∷ test q 7 ∷ last) ≡ firstOf (test p 7 ∷ test q 7 ∷ test false 7 ∷ last)
+          passed-by true q = refl
+          passed-by false true = refl
+          passed-by false false = refl
 
   -- where the counts don't fit, some number applies
-  pub short-refused : (nodes counts : ℕ) → ltb counts 4 ≡ true → (k : ℕ) × (countedRefusal (with nodes) counts ≡ suc k)
-  unfolding countedRefusal
-  short-refused nodes counts h = rw h (some (treeRoomTests (with nodes)) tt)
+  short-refused : T (Numbered before) → ltb counts 4 ≡ true → (k : ℕ) × (host ≡ suc k)
+  short-refused numbered h = rw h (go before numbered)
     where
-      some : (ts : List Test) → T (Numbered ts) → (k : ℕ) × (firstOf (ts ++ (test true 7 ∷ no8-draws (x .n) (s .source) ∷ [])) ≡ suc k)
-      some [] z = (6, refl)
-      some (test true zero ∷ ts) z = absurd z
-      some (test true (suc k) ∷ ts) z = (k, refl)
-      some (test false zero ∷ ts) z = absurd z
-      some (test false (suc k) ∷ ts) z = some ts z
+      sevenths : (p q : Bool) → (k : ℕ) × (firstOf (test p 7 ∷ test q 7 ∷ test true 7 ∷ last) ≡ suc k)
+      sevenths true q = (6, refl)
+      sevenths false true = (6, refl)
+      sevenths false false = (6, refl)
+
+      go : (ts : List Test) → T (Numbered ts) → (k : ℕ) × (firstOf (ts ++ (no7 most nodes ∷ test cuts 7 ∷ test true 7 ∷ last)) ≡ suc k)
+      go [] z = sevenths (ltb nodes most) cuts
+      go (test true zero ∷ ts) z = absurd z
+      go (test true (suc k) ∷ ts) z = (k, refl)
+      go (test false zero ∷ ts) z = absurd z
+      go (test false (suc k) ∷ ts) z = go ts z
 
 -- ---- the counts
 four : (a b c d : ℕ) (l : List ℕ) → 4 ≤ length l → fourIn a b c d l ≡ holding (a ∷ b ∷ c ∷ d ∷ []) l
@@ -94,64 +101,92 @@ front l k = record { sums = l .sums; rows = l .rows; gains = l .gains; nodes = t
 abbrev pub whole : Slices → ℕ → Slices → Slices
 whole before k l = record { sums = l .sums; rows = l .rows; gains = l .gains; nodes = l .nodes ++ drop k (before .nodes); cuts = l .cuts }
 
-module _ (x : Matrix) (s : Settings) (before : Slices) (counts₀ : List ℕ) where
-  abbrev q : Run
-  q = runOf x s
-
-  abbrev number : ℕ
-  number = countedRefusal (treeAsked x s (recordSlices before) (length (before .nodes)) (length (before .cuts))) (length counts₀)
-
+-- ---- a run q, with the sums that are told: the entry point's number, and the host's, which is one
+module _ (q : Run) (sums : List Float) (entry number : ℕ) (before : Slices) (counts₀ : List ℕ) (room : ℕ) (is : room ≡ countedRoom (length (before .nodes)) (length counts₀))
+    (same : entry ≡ number) (short : ltb (length counts₀) 4 ≡ true → (k : ℕ) × (number ≡ suc k)) where
   abbrev told : List Node
   told = toldUnless number (nodes 0 (treeOf q))
 
-  module _ (room : ℕ) (is : room ≡ countedRoom (length (before .nodes)) (length counts₀)) (few : room ≤ length (before .nodes)) where
-    same : treeRefusal (treeAsked x s (recordSlices before) (length (take room (before .nodes))) (length (before .cuts))) ≡ number
-    same =
-        let with′ : ℕ → TreeAsked = with x s (length (before .sums)) (recordRoom (before .rows) (before .gains)) (length (before .cuts)) in
-        ap (λ (k : ℕ). treeRefusal (with′ k)) (length-take-le room (before .nodes) few ∙ is) ∙ counted-number x s (length (before .sums)) (recordRoom (before .rows) (before .gains)) (length (before .cuts)) (length (before .nodes)) (length counts₀)
+  nodes-whole : holding (map toNode told) (take room (before .nodes)) ++ drop room (before .nodes) ≡ holding (map toNode told) (before .nodes)
+  unfolding countedRoom
+  nodes-whole = go (ltb (length counts₀) 4) refl
+    where
+      go : (b : Bool) → ltb (length counts₀) 4 ≡ b → holding (map toNode told) (take room (before .nodes)) ++ drop room (before .nodes) ≡ holding (map toNode told) (before .nodes)
+      go true e = let (k, w) = short e in rw (is, e, w)
+      go false e = rw (is, e, take-length, drop-length, append-nil)
 
-    nodes-whole : holding (map toNode told) (take room (before .nodes)) ++ drop room (before .nodes) ≡ holding (map toNode told) (before .nodes)
-    unfolding countedRoom
-    nodes-whole = go (ltb (length counts₀) 4) refl
+  module _ (g : Grown) (after : Slices) (counts₁ : List ℕ) (r : ℕ) (left : RunLeft (runFollows q sums entry) q g (front before room) after) (heard : GrownTold g r counts₀ counts₁) where
+    abbrev answer : Answer Counts
+    answer = unless number (countsOf q)
+
+    grew : g ≡ grownOf answer
+    grew = left .answer ∙ ap (λ (k : ℕ). grownOf (unless k (countsOf q))) same
+
+    counts-told : counts₁ ≡ holding (countsTold answer) counts₀
+    counts-told = heard .counts ∙ ap (λ (y : Grown). grownCounts y counts₀) grew ∙ go (ltb (length counts₀) 4) refl
       where
-        go : (b : Bool) → ltb (length counts₀) 4 ≡ b → holding (map toNode told) (take room (before .nodes)) ++ drop room (before .nodes) ≡ holding (map toNode told) (before .nodes)
-        go true e =
-            let (k, w) = short-refused x s (length (before .sums)) (recordRoom (before .rows) (before .gains)) (length (before .cuts)) (length (before .nodes)) (length counts₀) e in
-            rw (is, e, w)
-        go false e = rw (is, e, take-length, drop-length, append-nil)
+        go : (b : Bool) → ltb (length counts₀) 4 ≡ b → grownCounts (grownOf answer) counts₀ ≡ holding (countsTold answer) counts₀
+        go true e = let (k, w) = short e in rw w
+        go false e = counts-are answer counts₀ (ltb-false (length counts₀) 4 e)
 
-    module _ (g : Grown) (after : Slices) (counts₁ : List ℕ) (r : ℕ) (left : TreeLeft x s g (front before room) after) (heard : GrownTold g r counts₀ counts₁) where
-      abbrev answer : Answer Counts
-      answer = unless number (countsOf q)
+    demanded : r ≡ 0 → Demand q
+    demanded z = go number refl
+      where
+        go : (k : ℕ) → number ≡ k → Demand q
+        go zero e = left .demand _ _ (rw e at grew)
+        go (suc k) e = let w : grownNumber g ≡ suc k = ap (λ (y : Grown). grownNumber y) grew ∙ rw e in absurd (omega (arith, heard .number, w))
 
-      grew : g ≡ grownOf answer
-      unfolding treeCall
-      grew = left .answer ∙ ap (λ (k : ℕ). grownOf (unless k (countsOf q))) same
+    stored : RunStored (runFollows q sums number) q r before (whole before room after) counts₀ counts₁
+    stored =
+        record {
+          number = heard .number ∙ ap (λ (y : Grown). grownNumber y) grew ∙ number-is answer;
+          held = subst (λ (k : ℕ). Held (toldUnless k sums) (toldUnless k (recordsOf q)) (recordSlices before) (recordSlices after)) same (left .held);
+          nodes = ap (λ l. l ++ drop room (before .nodes)) (left .nodes ∙ ap (λ (k : ℕ). holding (map toNode (toldUnless k (nodes 0 (treeOf q)))) (take room (before .nodes))) same) ∙ nodes-whole;
+          cuts = left .cuts ∙ ap (λ (k : ℕ). holding (toldUnless k (sheet (treeOf q))) (before .cuts)) same;
+          counts = counts-told;
+          demand = demanded;
+        }
 
-      counts-told : counts₁ ≡ holding (countsTold answer) counts₀
-      counts-told = heard .counts ∙ ap (λ (y : Grown). grownCounts y counts₀) grew ∙ go (ltb (length counts₀) 4) refl
-        where
-          go : (b : Bool) → ltb (length counts₀) 4 ≡ b → grownCounts (grownOf answer) counts₀ ≡ holding (countsTold answer) counts₀
-          go true e =
-              let (k, w) = short-refused x s (length (before .sums)) (recordRoom (before .rows) (before .gains)) (length (before .cuts)) (length (before .nodes)) (length counts₀) e in
-              rw w
-          go false e = counts-are answer counts₀ (ltb-false (length counts₀) 4 e)
+-- ---- a tree, from a matrix or from the sums of a fed run
+module _ (s : Settings) (before : Slices) (counts₀ : List ℕ) (room : ℕ) (is : room ≡ countedRoom (length (before .nodes)) (length counts₀)) (few : room ≤ length (before .nodes)) where
+  -- the room that the entry point is lent
+  lent-on : length (take room (before .nodes)) ≡ countedRoom (length (before .nodes)) (length counts₀)
+  lent-on = length-take-le room (before .nodes) few ∙ is
 
-      demanded : r ≡ 0 → Demand q
-      demanded z = go number refl
-        where
-          go : (k : ℕ) → number ≡ k → Demand q
-          go zero e = left .demand _ _ (rw e at grew)
-          go (suc k) e = let w : grownNumber g ≡ suc k = ap (λ (y : Grown). grownNumber y) grew ∙ rw e in absurd (omega (arith, heard .number, w))
+  abbrev short-cuts : ℕ → Bool
+  short-cuts n = ltb (length (before .cuts)) ((mostNodes n (s .shortest) - 1) / 2)
 
-      pub stored : TreeStored x s r before (whole before room after) counts₀ counts₁
-      unfolding treeCall countedCall
-      stored =
-          record {
-            number = heard .number ∙ ap (λ (y : Grown). grownNumber y) grew ∙ number-is answer;
-            held = subst (λ (k : ℕ). Held (toldUnless k (sumsOf x)) (toldUnless k (recordsOf q)) (recordSlices before) (recordSlices after)) same (left .held);
-            nodes = ap (λ l. l ++ drop room (before .nodes)) (left .nodes ∙ ap (λ (k : ℕ). holding (map toNode (toldUnless k (nodes 0 (treeOf q)))) (take room (before .nodes))) same) ∙ nodes-whole;
-            cuts = left .cuts ∙ ap (λ (k : ℕ). holding (toldUnless k (sheet (treeOf q))) (before .cuts)) same;
-            counts = counts-told;
-            demand = demanded;
-          }
+  module _ (x : Matrix) where
+    abbrev tests : List Test
+    tests = take 11 (treeTests (treeAsked x s (recordSlices before) (length (before .nodes)) (length (before .cuts))))
+
+    abbrev last : List Test
+    last = no8-draws (x .n) (s .source) ∷ []
+
+    same-tree : treeRefusal (treeAsked x s (recordSlices before) (length (take room (before .nodes))) (length (before .cuts))) ≡ countedRefusal (treeAsked x s (recordSlices before) (length (before .nodes)) (length (before .cuts))) (length counts₀)
+    unfolding treeRefusal countedRefusal
+    same-tree = rw lent-on (counted-number tests last (mostNodes (x .n) (s .shortest)) (length (before .nodes)) (length counts₀) (short-cuts (x .n)) (omega arith))
+
+    short-tree : ltb (length counts₀) 4 ≡ true → (k : ℕ) × (countedRefusal (treeAsked x s (recordSlices before) (length (before .nodes)) (length (before .cuts))) (length counts₀) ≡ suc k)
+    unfolding countedRefusal
+    short-tree = short-refused tests last (mostNodes (x .n) (s .shortest)) (length (before .nodes)) (length counts₀) (short-cuts (x .n)) (omega arith) tt
+
+    pub tree-stored : (g : Grown) (after : Slices) (counts₁ : List ℕ) (r : ℕ) → TreeLeft x s g (front before room) after → GrownTold g r counts₀ counts₁ → TreeStored x s r before (whole before room after) counts₀ counts₁
+    unfolding treeCall countedCall
+    tree-stored g after counts₁ r left heard = stored (runOf x s) (sumsOf x) _ _ before counts₀ room is same-tree short-tree g after counts₁ r left heard
+
+  module _ (st : State) where
+    abbrev fed-tests : List Test
+    fed-tests = take 10 (fedTests st s (fedRoom (fedAsked st s before)))
+
+    same-fed : fedRefusal st s (fedRoom (fedAsked st s (front before room))) ≡ fedCountedRefusal st s (fedRoom (fedAsked st s before)) (length counts₀)
+    unfolding fedRefusal fedCountedRefusal
+    same-fed = rw lent-on (counted-number fed-tests (fedLastTests st s) (mostNodes (st .n) (s .shortest)) (length (before .nodes)) (length counts₀) (short-cuts (st .n)) (omega arith))
+
+    short-fed : ltb (length counts₀) 4 ≡ true → (k : ℕ) × (fedCountedRefusal st s (fedRoom (fedAsked st s before)) (length counts₀) ≡ suc k)
+    unfolding fedCountedRefusal
+    short-fed = short-refused fed-tests (fedLastTests st s) (mostNodes (st .n) (s .shortest)) (length (before .nodes)) (length counts₀) (short-cuts (st .n)) (omega arith) tt
+
+    pub fed-stored : (g : Grown) (after : Slices) (counts₁ : List ℕ) (r : ℕ) → FedLeft st s g (front before room) after → GrownTold g r counts₀ counts₁ → FedStored st s r before (whole before room after) counts₀ counts₁
+    unfolding fedCall fedCountedCall
+    fed-stored g after counts₁ r left heard = stored (fedRun st s (before .sums)) [] _ _ before counts₀ room is same-fed short-fed g after counts₁ r left heard

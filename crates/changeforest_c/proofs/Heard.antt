@@ -4,6 +4,7 @@ use Prim.Native.Nat.{ℕ, zero, suc}
 use lib.Ieee.{Float}
 use Rattle.scope.specs.Refusals.{Answer, refused, given, unless, toldUnless}
 use Rattle.scope.specs.Calls.{Tested, runOf}
+use Rattle.scope.specs.Feed as feed
 use Rattle.scope.specs.Why as scope
 use Rattle.scope.proofs.Never.{never}
 use Rattle.reasons.specs.declared.Why.{Why}
@@ -11,6 +12,10 @@ use Rattle.reasons.specs.Answers.{toWhy, fromWhy}
 use Rattle.reasons.proofs.Answers.{to-from}
 use Rattle.entry_why.specs.Answers.{explainedOf}
 use Rattle.entry_why.specs.declared.Explained.the-variants as explained
+use Rattle.feed.specs.declared.State.{State}
+use Rattle.feed.specs.States.{stateOf, fromState}
+use Rattle.entry_feed.specs.Answers.{fedOf}
+use Rattle.entry_feed.specs.declared.Fed.the-variants as fed
 use Rattle.entry_lengths.specs.Answers.{lengthOf}
 use Rattle.entry_mean.specs.Answers.{countOf, gainedOf}
 use Rattle.entry_curves.specs.Answers.{permutedOf}
@@ -43,6 +48,15 @@ gained-given (given h) g e = let w : h ≡ g = cc in ap given w
 pub gained-refused : (a : Answer Float) (k : ℕ) → gained.Refused k ≡ gainedOf a → a ≡ refused k
 gained-refused (refused j) k e = let w : j ≡ k = cc in ap refused w
 gained-refused (given h) k e = never (cc)
+
+-- the state of a fed run
+pub fed-given : (a : Answer feed.State) (s : State) → fed.State s ≡ fedOf a → a ≡ given (stateOf s)
+fed-given (refused k) s e = never (cc)
+fed-given (given t) s e = let w : fromState t ≡ s = cc in ap (λ (z : State). given (stateOf z)) w
+
+pub fed-refused : (a : Answer feed.State) (k : ℕ) → fed.Refused k ≡ fedOf a → a ≡ refused k
+fed-refused (refused j) k e = let w : j ≡ k = cc in ap refused w
+fed-refused (given t) k e = never (cc)
 
 -- the test's parts
 abbrev pub testedIn : TestResult → Tested

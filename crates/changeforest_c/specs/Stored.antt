@@ -9,6 +9,8 @@ use Rattle.scope.specs.Lists.{holding}
 use Rattle.scope.specs.Asked.{Matrix, Shortest, Source, Settings}
 use Rattle.scope.specs.Refusals.{given}
 use Rattle.scope.specs.Calls.{lengthAnswer, CandidatesAsked, candidatesCall, GainAsked, gainCall, SearchAsked, searchCall, TreeTold, runOf, countedCall, countsTold, PickAsked, pickAnswer, GuessesAsked, guessesAnswer, PermutationAsked, permutationAnswer}
+use Rattle.scope.specs.Tree.{Run}
+use Rattle.scope.specs.Feed.{State, OpenAsked, openCall, FeedAsked, feedCall, closeAnswer, fedRun, fedCountedCall}
 use Rattle.scope.specs.Why.{Why}
 use Rattle.segmentation.specs.Segments.{Slices as RecordSlices, Held}
 use Rattle.node.specs.Nodes.{toNode}
@@ -16,9 +18,9 @@ use Rattle.demand.specs.Demand.{Demand}
 use Rattle.demand.specs.Because.{Because}
 use Rattle.prepared.specs.Answers.{treeAsked}
 use Rattle.entry_segments.specs.Left.{storedTold}
-use Rattle.entry_tree.specs.Left.{Slices, recordSlices}
+use Rattle.entry_tree.specs.Left.{Slices, recordSlices, fedAsked}
 use Rattle.entry_why.specs.Left.{whyTold}
-use Rattle.told.specs.Told.{numberOf, valueOr, splitOr, gainOr, entryOr, lengthOr, counterOr, pOr, significantOr, toldOr, reasonNumber, segmentOf, kindOr, originNumberOr, textLengthOr, firstOr, secondOr, notAboveOr}
+use Rattle.told.specs.Told.{numberOf, valueOr, cellsOr, splitOr, gainOr, entryOr, lengthOr, counterOr, pOr, significantOr, toldOr, reasonNumber, segmentOf, kindOr, originNumberOr, textLengthOr, firstOr, secondOr, notAboveOr}
 
 -- the minimal length
 pub record LengthStored (relative : Float) (n r m₀ m₁ : ℕ) : Type 0 where
@@ -50,18 +52,43 @@ pub record SegmentsStored (x : Matrix) (short : Shortest) (forbidden : List ℕ)
   pub held : Held (storedTold x short forbidden source before .sums) (storedTold x short forbidden source before .records) before after
   pub count : count₁ ≡ valueOr (storedTold x short forbidden source before .answer) count₀
 
--- what follows of a tree where these are lent, and so many counts
-abbrev pub countedTold : Matrix → Settings → Slices → List ℕ → TreeTold
-countedTold x s lent counts = countedCall (treeAsked x s (recordSlices lent) (length (lent .nodes)) (length (lent .cuts))) (length counts)
+-- what was told of the run q: the tree's nodes, its records, its cuts, the prefix sums, and the four counts; and of a run that is not refused, the demand on
+-- its tree and its sheet
+pub record RunStored (told : TreeTold) (q : Run) (r : ℕ) (before after : Slices) (counts₀ counts₁ : List ℕ) : Type 0 where
+  pub number : r ≡ numberOf (told .answer)
+  pub held : Held (told .sums) (told .records) (recordSlices before) (recordSlices after)
+  pub nodes : after .nodes ≡ holding (map toNode (told .nodes)) (before .nodes)
+  pub cuts : after .cuts ≡ holding (told .cuts) (before .cuts)
+  pub counts : counts₁ ≡ holding (countsTold (told .answer)) counts₀
+  pub demand : r ≡ 0 → Demand q
 
--- the tree's nodes, its records, its cuts, the prefix sums, and the four counts; and of a run that is not refused, the demand on its tree and its sheet
-pub record TreeStored (x : Matrix) (s : Settings) (r : ℕ) (before after : Slices) (counts₀ counts₁ : List ℕ) : Type 0 where
-  pub number : r ≡ numberOf (countedTold x s before counts₀ .answer)
-  pub held : Held (countedTold x s before counts₀ .sums) (countedTold x s before counts₀ .records) (recordSlices before) (recordSlices after)
-  pub nodes : after .nodes ≡ holding (map toNode (countedTold x s before counts₀ .nodes)) (before .nodes)
-  pub cuts : after .cuts ≡ holding (countedTold x s before counts₀ .cuts) (before .cuts)
-  pub counts : counts₁ ≡ holding (countsTold (countedTold x s before counts₀ .answer)) counts₀
-  pub demand : r ≡ 0 → Demand (runOf x s)
+-- of a tree where these are lent, and so many counts
+abbrev pub TreeStored : Matrix → Settings → ℕ → Slices → Slices → List ℕ → List ℕ → Type 0
+TreeStored x s r before after counts₀ counts₁ =
+    RunStored (countedCall (treeAsked x s (recordSlices before) (length (before .nodes)) (length (before .cuts))) (length counts₀)) (runOf x s) r before after counts₀ counts₁
+
+-- ---- a run that is fed
+
+-- an opening: the first sums, and the count
+pub record OpenStored (a : OpenAsked) (r : ℕ) (sums₀ sums₁ : List Float) (count₀ count₁ : ℕ) : Type 0 where
+  pub number : r ≡ numberOf (openCall a .answer)
+  pub sums : sums₁ ≡ holding (openCall a .sums) sums₀
+  pub count : count₁ ≡ cellsOr (openCall a .answer) count₀
+
+-- a lot: its sums, and the count, which was the state's
+pub record FeedStored (a : FeedAsked) (r : ℕ) (sums₁ : List Float) (count₁ : ℕ) : Type 0 where
+  pub number : r ≡ numberOf (feedCall a .answer)
+  pub sums : sums₁ ≡ feedCall a .sums
+  pub count : count₁ ≡ cellsOr (feedCall a .answer) (a .state .count)
+
+-- closing
+pub record CloseStored (s : State) (r : ℕ) : Type 0 where
+  pub number : r ≡ numberOf (closeAnswer s)
+
+-- the later sheet where these are lent, and so many counts; the sums stay
+abbrev pub FedStored : State → Settings → ℕ → Slices → Slices → List ℕ → List ℕ → Type 0
+FedStored st s r before after counts₀ counts₁ =
+    RunStored (fedCountedCall (fedAsked st s before) (length counts₀)) (fedRun st s (before .sums)) r before after counts₀ counts₁
 
 -- the places that what is told of a row is stored through
 pub record WhyPlaces : Type 0 where

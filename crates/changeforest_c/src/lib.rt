@@ -2,6 +2,7 @@
 // stored through the last arguments, which a refusal leaves as they were, like every lent slice. A slice is a pointer and a length in
 // entries.
 pub mod curves;
+pub mod feeding;
 pub mod lengths;
 pub mod mean;
 pub mod neighbours;

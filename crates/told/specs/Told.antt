@@ -10,6 +10,7 @@ use Rattle.scope.specs.Refusals.{Answer, refused, given}
 use Rattle.scope.specs.Origin.{kindOf, numberOf as originNumber, originText}
 use Rattle.scope.specs.Layers.{Segment}
 use Rattle.scope.specs.Calls.{Split, Tested}
+use Rattle.scope.specs.Feed.{State}
 use Rattle.scope.specs.Why.{Why, cut, tooNear, barred, noNumber, notAbove}
 use Rattle.entry_tree.specs.declared.Grown.{Grown}
 use Rattle.entry_tree.specs.declared.Grown.the-variants as grown
@@ -23,6 +24,11 @@ numberOf (given a) = 0
 abbrev pub valueOr : {A : Type 0} → Answer A → A → A
 valueOr (refused k) before = before
 valueOr (given a) before = a
+
+-- how many cells a fed run has taken
+abbrev pub cellsOr : Answer State → ℕ → ℕ
+cellsOr (refused k) before = before
+cellsOr (given s) before = s .count
 
 abbrev pub splitOr : Answer Split → ℕ → ℕ
 splitOr (refused k) before = before
