@@ -2,9 +2,9 @@
 use mathlib.Core.Path.{_≡_, refl, sym, _∙_, ap}
 use mathlib.Core.Bool.{Bool, true, false, _&&_}
 use mathlib.Core.List.{List, [], _∷_, _++_}
-use Prim.Native.Nat.{ℕ, _<_}
+use Prim.Native.Nat.{ℕ, zero, suc, _<_}
 use native.Mathlib.Omega.{arith}
-use lib.ListN.{length, getD, take, drop, take-append-drop, length-take}
+use lib.ListN.{length, getD, set, take, drop, take-append-drop, length-take}
 use lib.Seq.{getD-take}
 use Rattle.scope.specs.Lists.{every}
 use Rattle.scope.proofs.Members.{first-of, second-of, at-in, every-of}
@@ -22,6 +22,13 @@ every-append p (x ∷ xs) ys = rw (every-append p xs ys) (go (p x))
 pub every-end : {A : Type 0} (p : A → Bool) (l : List A) (x : A) → every p l ≡ true → p x ≡ true → every p (l ++ (x ∷ [])) ≡ true
 unfolding every
 every-end p l x h k = rw (every-append p l (x ∷ []), h, k)
+
+-- one member in the place of another
+pub every-set : {A : Type 0} (p : A → Bool) (l : List A) (i : ℕ) (x : A) → every p l ≡ true → p x ≡ true → every p (set l i x) ≡ true
+unfolding every
+every-set p [] i x h k = refl
+every-set p (y ∷ l) zero x h k = rw (k, second-of (p y) (every p l) h)
+every-set p (y ∷ l) (suc i) x h k = rw (first-of (p y) (every p l) h, every-set p l i x (second-of (p y) (every p l) h) k)
 
 -- what every member passes, every member of a part does
 module _ {A : Type 0} (p : A → Bool) (i : ℕ) (l : List A) (e : every p l ≡ true) where

@@ -10,7 +10,9 @@ use lib.Dec.{leb}
 use lib.Ieee.{Float}
 use lib.ListN.{length, getD}
 use Rattle.scope.specs.Refusals.{Test, test, firstOf, given, unless}
-use Rattle.scope.specs.Calls.{lengthTests, CandidatesAsked, candidatesTests, GainAsked, gainTests, SearchAsked, searchTests, StoredAsked, storedTests, TreeAsked, treeTests, countedTests, OrderingAsked, orderingTests, PredictAsked, predictTests, CurveAsked, curveTests, PickAsked, pickTests, GuessesAsked, guessesTests, PermutationAsked, permutationTests}
+use Rattle.scope.specs.Asked.{Settings}
+use Rattle.scope.specs.Calls.{Room, lengthTests, CandidatesAsked, candidatesTests, GainAsked, gainTests, SearchAsked, searchTests, StoredAsked, storedTests, TreeAsked, treeTests, countedTests, OrderingAsked, orderingTests, PredictAsked, predictTests, CurveAsked, curveTests, PickAsked, pickTests, GuessesAsked, guessesTests, PermutationAsked, permutationTests}
+use Rattle.scope.specs.Feed.{State, OpenAsked, openTests, feedTests, closeTests, fedTests, fedCountedTests}
 use Rattle.scope.specs.Why.{WhyAsked, whyTests}
 use Rattle.scope.specs.Program.{Deck, deckTests}
 use Rattle.scope.specs.WhyText.{askedTests}
@@ -89,6 +91,11 @@ pub record InOrder : Type 0 where
   pub stored : (a : StoredAsked) → inOrder 1 (storedTests a) ≡ true
   pub tree : (a : TreeAsked) → inOrder 1 (treeTests a) ≡ true
   pub counted : (a : TreeAsked) (counts : ℕ) → inOrder 1 (countedTests a counts) ≡ true
+  pub opening : (a : OpenAsked) → inOrder 1 (openTests a) ≡ true
+  pub lot : (s : State) (cells : List Float) (room : ℕ) → inOrder 1 (feedTests s cells room) ≡ true
+  pub closing : (s : State) → inOrder 1 (closeTests s) ≡ true
+  pub later : (st : State) (s : Settings) (room : Room) → inOrder 1 (fedTests st s room) ≡ true
+  pub later-counted : (st : State) (s : Settings) (room : Room) (counts : ℕ) → inOrder 1 (fedCountedTests st s room counts) ≡ true
   pub why : (a : WhyAsked) → inOrder 1 (whyTests a) ≡ true
   pub ordering : (a : OrderingAsked) → inOrder 1 (orderingTests a) ≡ true
   pub predict : (a : PredictAsked) → inOrder 1 (predictTests a) ≡ true
@@ -109,6 +116,11 @@ all-in-order =
       stored = λ a. refl;
       tree = λ a. refl;
       counted = λ a counts. refl;
+      opening = λ a. refl;
+      lot = λ s cells room. refl;
+      closing = λ s. refl;
+      later = λ st s room. refl;
+      later-counted = λ st s room counts. refl;
       why = λ a. refl;
       ordering = λ a. refl;
       predict = λ a. refl;

@@ -3,6 +3,7 @@ use mathlib.Core.Path.{_≡_, refl, sym, _∙_, ap}
 use mathlib.Core.Bool.{Bool, true, false, cond, not, _||_}
 use mathlib.Core.List.{List, List·Memᴰ·not-nil}
 use Prim.Native.Nat.{ℕ, zero, suc, _+_, _-_, _*_, _^_, _≤_, _<_}
+use native.Mathlib.Nat.{add-mul}
 use native.Mathlib.Omega.{arith}
 use borrow.Author.Tests.{ltb-false, le-leb, eqb-true, eqb-false, not-false}
 use lib.Dec.{ltb, leb, eqb}
@@ -11,7 +12,7 @@ use lib.ListN.{length, getD, replicate}
 use Rattle.scope.specs.Floats.{+0, lowest, isFinite}
 use Rattle.scope.specs.Lists.{_∈_, at, every}
 use Rattle.scope.specs.Asked.{Matrix}
-use Rattle.scope.specs.Refusals.{Test, test, firstOf, given, unless, toldUnless, mostRows, mostNeighbours, mostColumns, mostPermutations, outside, wrongMatrix, wrongSegment}
+use Rattle.scope.specs.Refusals.{Test, test, firstOf, given, unless, toldUnless, leftUnless, mostRows, mostNeighbours, mostColumns, mostPermutations, outside, wrongMatrix, wrongSegment}
 use Rattle.scope.specs.Rounding.{wholeRoot}
 use Rattle.scope.specs.Sums.{flatSums, prefixSums}
 use Rattle.scope.specs.Origin.{direct}
@@ -21,15 +22,17 @@ use Rattle.scope.specs.Neighbours.{distances, countOf, predictions}
 use Rattle.scope.specs.Curves.{picked}
 use Rattle.scope.specs.Permutations.{wrongPermutations}
 use Rattle.scope.specs.Calls.{Split, splitOf, sumsOf, gainIn, gainTests, gainRefusal, gainCall, searchTests, searchRefusal, searchCall, storedTests, storedRefusal, searchIn, segmentsOf, storedOf, storedCall, treeTests, treeRefusal, runOf, treeCall, orderingTests, orderingRefusal, lastDistances, orderingCall, PredictAsked, predictTests, predictRefusal, predictionsOf, predictCall, PickAsked, pickTests, pickAnswer, Tested, PermutationAsked, within, permutationTests, testedOf, counterOf, permutationAnswer}
+use Rattle.scope.specs.Feed.{cellsIn, sumsIn, openRefusal, openCall, fedSums, FeedAsked, feedTests, feedRefusal, feedCall, fedRun, fedRefusal, fedRoom, fedCall}
 use Rattle.scope.specs.Tree.{storedRecords}
 use Rattle.scope.specs.Tree as tree
 use Rattle.scope.specs.Why.{notAbove, whyOf, whyTests, whyRefusal, whyCall}
 use Rattle.scope.specs.Numbers.{AllNumeric, AllF64, NeverNaN}
 use Rattle.scope.proofs.Members.{at-in, every-of}
-use Rattle.scope.proofs.Every.{every-end}
+use Rattle.scope.proofs.Every.{every-end, every-set}
 use Rattle.scope.proofs.Lowest.{inOrder, holds, not-held, given-is, all-in-order}
 use Rattle.scope.proofs.Candidates.{or-false, not-outside}
 use Rattle.scope.proofs.Sums.{length-flat}
+use Rattle.scope.proofs.Feed.{length-fed}
 use Rattle.scope.proofs.Signs.{add-numeric, quotient-numeric, distance-numeric}
 use Rattle.scope.proofs.Finite.{zero-plus-finite}
 use Rattle.scope.proofs.Why.{told-number}
@@ -96,6 +99,33 @@ module _ (x : Matrix) (s : Sized x) (held : AllF64 (x .cells)) where
 
 sums-told : (x : Matrix) (k : ℕ) → (k ≡ 0 → Sized x) → AllF64 (x .cells) → AllNumeric (toldUnless k (sumsOf x))
 sums-told x k s held = told-every numeric k (sumsOf x) (λ z. sums-numeric x (s z) held)
+
+-- of a lot, behind numeric ones
+module _ (a : FeedAsked) (held : AllF64 (a .lot)) (stood : AllNumeric (a .sums)) where
+  abbrev left : ℕ → List Float
+  left k = fedSums (a .lot) (a .state .d) (a .state .count) (a .sums) k
+
+  lot-sums : every isFinite (a .lot) ≡ true → a .state .count + length (a .lot) ≤ length (a .sums) → (k : ℕ) → k ≤ length (a .lot) → AllNumeric (left k)
+  unfolding fedSums
+  lot-sums finite room zero h = stood
+  lot-sums finite room (suc k) h =
+      let before = lot-sums finite room k (omega arith) in
+      let cell = at-in (a .lot) k nan (omega arith) in
+      let sum = at-in (left k) (a .state .count + k) nan (let e = length-fed (a .lot) (a .state .d) (a .state .count) (a .sums) k in omega arith) in
+      every-set numeric (left k) _ _ before
+      (add-numeric binary64 _ _ (zero-plus-finite binary64 _ (every-of (fits binary64) (a .lot) held _ cell) (every-of isFinite (a .lot) finite _ cell)) (every-of numeric _ before _ sum))
+
+  feed-numeric : AllNumeric (feedCall a .sums)
+  unfolding feedCall feedRefusal
+  feed-numeric = go (feedRefusal (a .state) (a .lot) (length (a .sums))) refl
+    where
+      go : (k : ℕ) → firstOf (feedTests (a .state) (a .lot) (length (a .sums))) ≡ k → AllNumeric (leftUnless k (a .sums) (left (length (a .lot))))
+      go zero e =
+          let t : (i : ℕ) → i < 4 → holds (getD (feedTests (a .state) (a .lot) (length (a .sums))) i (test false 0)) ≡ false = not-held (feedTests (a .state) (a .lot) (length (a .sums))) refl e in
+          let fit = ltb-false (length (a .sums)) (sumsIn (a .state)) (t 2 (omega arith)) in
+          let few = ltb-false (cellsIn (a .state)) (a .state .count + length (a .lot)) (t 3 (omega arith)) in
+          lot-sums (not-false _ (t 1 (omega arith))) (omega (arith, fit, few, add-mul (a .state .n) 1 (a .state .d))) (length (a .lot)) (omega arith)
+      go (suc k) e = stood
 
 -- ---- the squared distances of row i to the first k rows
 all-distances : (x : Matrix) → Sized x → (i : ℕ) → i < x .n → (k : ℕ) → k ≤ x .n → every numeric (distances (x .cells) (x .d) i k) ≡ true
@@ -180,7 +210,7 @@ p-numeric a t e =
     sym (ap (λ (w : Tested). numeric (w .p)) is) ∙ quotient-numeric binary64 (counterOf (within a)) (a .P + 1) (omega arith) (omega (arith, ltb-false mostPermutations (a .P) i))
 
 pub never-NaN : NeverNaN
-unfolding gainCall gainRefusal searchCall searchRefusal storedCall storedRefusal treeCall treeRefusal whyCall whyRefusal storedRecords orderingCall orderingRefusal predictCall
+unfolding openCall fedCall gainCall gainRefusal searchCall searchRefusal storedCall storedRefusal treeCall treeRefusal whyCall whyRefusal storedRecords orderingCall orderingRefusal predictCall
 never-NaN =
     record {
       gain-sums = λ a. sums-told (a .matrix) (gainRefusal a) (sized-by mostRows (omega arith) (a .matrix) (gainTests a) (all-in-order .gain a) refl 1 (omega arith) refl);
@@ -188,6 +218,10 @@ never-NaN =
       stored-sums = λ a. sums-told (a .matrix) (storedRefusal a) (sized-by mostRows (omega arith) (a .matrix) (storedTests a) (all-in-order .stored a) refl 2 (omega arith) refl);
       tree-sums = λ a. sums-told (a .matrix) (treeRefusal a) (sized-by mostRows (omega arith) (a .matrix) (treeTests a) (all-in-order .tree a) refl 3 (omega arith) refl);
       why-sums = λ a. sums-told (a .matrix) (whyRefusal a) (sized-by mostRows (omega arith) (a .matrix) (whyTests a) (all-in-order .why a) refl 3 (omega arith) refl);
+      open-sums = λ a. told-every numeric (openRefusal a) (replicate (a .d) +0) (λ z. zeros (a .d));
+      feed-sums = feed-numeric;
+      later = λ a r i. records-numbers (fedRun (a .state) (a .settings) (a .sums)) r (told-in (fedRefusal (a .state) (a .settings) (fedRoom a)) _ r i);
+      later-node = λ a d r i. nodes-numbers (fedRun (a .state) (a .settings) (a .sums)) d (told-in (fedRefusal (a .state) (a .settings) (fedRoom a)) _ d i) r;
       search = λ a s. answered (searchRefusal a) (best (blank (a .start) (a .stop)) (trials (gainIn (a .matrix)) (a .shortest) (a .forbidden) (a .start) (a .stop))) s (best-numeric (blank (a .start) (a .stop)) _ refl);
       stored = λ a r i. stored-numbers (searchIn (a .matrix) (a .shortest) (a .forbidden)) (search-number (gainIn (a .matrix)) (a .shortest) (a .forbidden)) (segmentsOf (a .matrix) (a .shortest) (a .forbidden) (a .source)) r (told-in (storedRefusal a) (storedOf a) r i);
       why = λ a r i. stored-numbers (tree.direct (runOf (a .matrix) (a .settings))) (search-number (gainIn (a .matrix)) (a .settings .shortest) (a .settings .forbidden)) (runOf (a .matrix) (a .settings) .segments) r (told-in (whyRefusal a) _ r i);

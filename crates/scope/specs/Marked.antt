@@ -25,6 +25,8 @@ use Rattle.scope.specs.Neighbours.{difference, squares, distances, inser
 use Rattle.scope.specs.Curves.{guesses}
 use Rattle.scope.specs.Permutations.{isPermutation, wrongPermutations, addDeltas, added, reaches, exceeds, counter}
 use Rattle.scope.specs.Calls.{Split, Room, OrderingAsked, Counts, Tested, lengthAnswer, candidatesRefusal, candidatesCall, gainRefusal, gainCall, searchRefusal, searchCall, storedRefusal, storedCall, treeRefusal, treeCall, predictRefusal, predictCall, guessesAnswer, wrongLengths, permutationAnswer}
+use Rattle.scope.specs.Feed.{State, openRefusal, openCall, fedSums, feedRefusal, feedCall, closeAnswer, fedRefusal, fedCall}
+use Rattle.scope.specs.Fed.{Step, lot, closing, handedOn, after, openedIn, laterOf}
 use Rattle.scope.specs.Why.{Why, cut, tooNear, barred, noNumber, notAbove, placeOf, isNear, firstBarring, whyOf, whyRefusal, whyCall}
 use Rattle.scope.specs.Text.{bytes, same, parts, valueOf, number, cell, cellsOf, hexValueOf, threshold, decimalOf, hexOf, line}
 use Rattle.scope.specs.Program.{wrongDeck, wrongPairs, readLine, readLines, readInput, deckRefusal, cutLines, sheetText, program}
@@ -48,6 +50,12 @@ data Case : Type 0 where
   originsBy : List ℕ → Source → Case
   originTold : Source → ℕ → ℕ → Case
   originsIn : Source → Case
+  openedBy : (n d room : ℕ) → Case
+  lotTo : State → List Float → ℕ → Case
+  closedAt : State → Case
+  fedBy : (n d : ℕ) → List Step → Case
+  laterSheet : (n d : ℕ) → List Step → Float → Source → Case
+  sheetOver : State → Float → List Float → Case
 
 -- what is seen of it
 data Seen : Type 0 where
@@ -66,6 +74,8 @@ data Seen : Type 0 where
   origins : List Origin → Seen
   told : Answer Why → List ℕ → Seen
   inTree : List Origin → List Origin → Seen
+  state : Answer State → Seen
+  sums : Answer State → List Float → Seen
 
 abbrev room : ℕ
 room = 64
@@ -144,6 +154,20 @@ run (originsIn source) =
     let originOf : Record → Origin = λ r. r .origin in
     inTree (map originOf (call .records)) (map originOf (flatten (map (λ (d : Node). one (d .choice)) (call .nodes))))
 
+run (openedBy n d room) = let told = openCall (record { n = n; d = d; room = room }) in sums (told .answer) (told .sums)
+run (lotTo st values room) = state (feedCall (record { state = st; lot = values; sums = replicate room (whole 0) }) .answer)
+run (closedAt st) = state (closeAnswer st)
+run (fedBy n d steps) = let h = after (openedIn n d (replicate 10 (whole 7))) steps in sums (given (h .state)) (h .sums)
+run (laterSheet n d steps t source) =
+    let h = after (openedIn n d (replicate 10 (whole 7))) steps in
+    let settings : Settings = record { shortest = off 1; threshold = t; forbidden = []; source = source } in
+    let told = fedCall (laterOf h settings ample) in
+    tree (told .answer) (told .cuts)
+run (sheetOver st t found) =
+    let settings : Settings = record { shortest = off 1; threshold = t; forbidden = []; source = nothing } in
+    let told = fedCall (record { state = st; settings = settings; sums = found; records = room; nodes = room; cuts = room }) in
+    tree (told .answer) (told .cuts)
+
 -- a case and what is to be seen
 record Marked : Type 0 where
   case : Case
@@ -156,8 +180,21 @@ M7 = "cfg\t8\t1\t1\t4024000000000000\nrow\t0\nrow\t0\nrow\t0\nrow\t0\nrow\t8\nro
 halves : List ℕ
 halves = 0 ∷ 0 ∷ 0 ∷ 0 ∷ 8 ∷ 8 ∷ 8 ∷ 8 ∷ []
 
+-- a lot of whole numbers
+cells : List ℕ → Step
+cells l = lot (map whole l)
+
+-- n rows of d columns of which so many cells were taken
+taken : ℕ → ℕ → ℕ → State
+taken n d count = record { n = n; d = d; count = count }
+
+-- M7's rows in lots: an empty one, and one that ends nowhere in particular; a bad cell, too many cells and an early close among them, which take nothing
+lots : List Step
+unfolding cells
+lots = cells (0 ∷ 0 ∷ 0 ∷ []) ∷ cells [] ∷ lot (whole 8 ∷ nan ∷ []) ∷ cells (0 ∷ 8 ∷ 8 ∷ []) ∷ cells (8 ∷ 8 ∷ 8 ∷ []) ∷ closing ∷ cells (8 ∷ 8 ∷ []) ∷ closing ∷ []
+
 marked : List Marked
-unfolding from wild layered hump M7 halves
+unfolding from wild layered hump M7 halves cells taken lots
 marked =
     -- M1 [0,10), m=3: 3 to 6
     record { case = allowedRows (off 3) 0 10 []; seen = rows (given 4) (3 ∷ 4 ∷ 5 ∷ 6 ∷ []) }
@@ -285,9 +322,44 @@ marked =
     ∷ record { case = originTold (wild (0 ∷ 6 ∷ []) 1) 5 25; seen = told (given (tooNear (from 4 6))) [] }
     ∷ record { case = originTold (wild (0 ∷ 6 ∷ []) 1) 4 24; seen = told (refused 7) [] }
     ∷ record { case = originTold (wild (0 ∷ 6 ∷ []) 1) 5 24; seen = told (refused 7) [] }
+    -- an opening: the first d sums are 0. 1: 65 columns; 7: (n+1)*d sums, one less, and 1 before it
+    ∷ record { case = openedBy 2 3 9; seen = sums (given (taken 2 3 0)) (whole 0 ∷ whole 0 ∷ whole 0 ∷ []) }
+    ∷ record { case = openedBy 2 65 0; seen = sums (refused 1) [] }
+    ∷ record { case = openedBy 2 3 8; seen = sums (refused 7) [] }
+    -- two rows of two columns, a lot ending mid-row: each sum is the cell and the sum two before; what stood behind them stays
+    ∷ record {
+      case = fedBy 2 2 (cells (1 ∷ []) ∷ cells (2 ∷ 3 ∷ []) ∷ []);
+      seen = sums (given (taken 2 2 3)) (map whole (0 ∷ 0 ∷ 1 ∷ 2 ∷ 4 ∷ 7 ∷ 7 ∷ 7 ∷ 7 ∷ 7 ∷ []));
+    }
+    -- M7's rows: the sums of the whole matrix, and its sheet
+    ∷ record { case = fedBy 8 1 lots; seen = sums (given (taken 8 1 8)) (map whole (0 ∷ 0 ∷ 0 ∷ 0 ∷ 0 ∷ 8 ∷ 16 ∷ 24 ∷ 32 ∷ 7 ∷ [])) }
+    ∷ record { case = laterSheet 8 1 lots (whole 10) nothing; seen = tree (given (record { nodes = 3; records = 3; cuts = 1; stored = 0 })) (4 ∷ []) }
+    ∷ record { case = cutsOf halves (off 1) (whole 10) nothing; seen = tree (given (record { nodes = 3; records = 3; cuts = 1; stored = 0 })) (4 ∷ []) }
+    -- the sheet asked for one cell early: 14; with a threshold that is no number 3, and a draw past n 8, come before
+    ∷ record { case = laterSheet 8 1 (cells (0 ∷ 0 ∷ 0 ∷ 0 ∷ 8 ∷ 8 ∷ 8 ∷ []) ∷ []) (whole 10) nothing; seen = tree (refused 14) [] }
+    ∷ record { case = laterSheet 8 1 [] nan nothing; seen = tree (refused 3) [] }
+    ∷ record { case = laterSheet 8 1 [] (whole 10) (wild (0 ∷ 9 ∷ []) 1); seen = tree (refused 8) [] }
+    -- a lot's refusals: 1 before 4 before 7 before 13
+    ∷ record { case = lotTo (taken 4097 1 0) (nan ∷ []) 0; seen = state (refused 1) }
+    ∷ record { case = lotTo (taken 2 2 9) (nan ∷ []) 0; seen = state (refused 4) }
+    ∷ record { case = lotTo (taken 2 2 9) (whole 1 ∷ []) 5; seen = state (refused 7) }
+    ∷ record { case = lotTo (taken 2 2 3) (whole 1 ∷ whole 1 ∷ []) 6; seen = state (refused 13) }
+    ∷ record { case = lotTo (taken 2 2 3) (whole 1 ∷ []) 6; seen = state (given (taken 2 2 4)) }
+    -- an empty lot to a run that is full, and to a state with a count past n*d
+    ∷ record { case = lotTo (taken 2 2 4) [] 6; seen = state (given (taken 2 2 4)) }
+    ∷ record { case = lotTo (taken 2 2 5) [] 6; seen = state (refused 13) }
+    -- closing: 1, 13 past n*d, 14 before it; and there is no 4 and no 7, as it takes the state alone
+    ∷ record { case = closedAt (taken 0 2 0); seen = state (refused 1) }
+    ∷ record { case = closedAt (taken 2 2 5); seen = state (refused 13) }
+    ∷ record { case = closedAt (taken 2 2 3); seen = state (refused 14) }
+    ∷ record { case = closedAt (taken 2 2 4); seen = state (given (taken 2 2 4)) }
+    -- over any sums: a NaN among them is no refusal, and cuts nothing; with a count past n*d 13
+    ∷ record { case = sheetOver (taken 2 1 2) (fin true 1 (pos 0)) (replicate 3 nan); seen = tree (given (record { nodes = 1; records = 0; cuts = 0; stored = 0 })) [] }
+    ∷ record { case = sheetOver (taken 3 1 3) (fin true 1 (pos 0)) (replicate 4 nan); seen = tree (given (record { nodes = 1; records = 1; cuts = 0; stored = 0 })) [] }
+    ∷ record { case = sheetOver (taken 3 1 4) (whole 10) (replicate 4 (whole 0)); seen = tree (refused 13) [] }
     ∷ []
 
--- M1 to M11, the three rows for the slips, six for the closed end, thirteen for draws, sixteen for why and eleven for origins
+-- M1 to M11, the three rows for the slips, six for the closed end, thirteen for draws, sixteen for why, eleven for origins and 24 for fed runs
 marked-right : map (λ (c : Marked). run (c .case)) marked ≡ map (λ (c : Marked). c .seen) marked
-unfolding run marked originText oneMore add sub mul div ofInt ofBits toBits lt le isNan upward select every outside wrongMatrix isBetween wellPaired wrongLayers wrongSegment wrongSplit allBarred wrongPermutations wrongLengths wrongDeck wrongPairs nearestOf truncation ceiling minimalLength wholeRoot isBarred rangeSize candidates flatSums prefixSums term terms innerGain gainOf better best trials search layerLength layerCount layerStep layerStart layerStop layerSegments seededFrom layersTotal stored pairsOf numbered drawn isOdd bothGiven anyPast storedRecords inside choice verdict grow grown recordsOf nodeCount nodes cuts sheet difference squares distances insert ordered orderOf others neighbours countOf predictions isPermutation addDeltas added reaches exceeds counter lengthAnswer candidatesRefusal candidatesCall gainRefusal gainCall searchRefusal searchCall storedRefusal storedCall treeRefusal treeCall predictRefusal predictCall guesses guessesAnswer permutationAnswer placeOf isNear firstBarring whyOf whyRefusal whyCall askedRefusal whyProgram bytes same parts valueOf number cell cellsOf hexValueOf threshold decimalOf hexOf line readLine readLines readInput deckRefusal cutLines sheetText program flatten
+unfolding run marked openRefusal openCall fedSums feedRefusal feedCall closeAnswer handedOn after fedRefusal fedCall originText oneMore add sub mul div ofInt ofBits toBits lt le isNan upward select every outside wrongMatrix isBetween wellPaired wrongLayers wrongSegment wrongSplit allBarred wrongPermutations wrongLengths wrongDeck wrongPairs nearestOf truncation ceiling minimalLength wholeRoot isBarred rangeSize candidates flatSums prefixSums term terms innerGain gainOf better best trials search layerLength layerCount layerStep layerStart layerStop layerSegments seededFrom layersTotal stored pairsOf numbered drawn isOdd bothGiven anyPast storedRecords inside choice verdict grow grown recordsOf nodeCount nodes cuts sheet difference squares distances insert ordered orderOf others neighbours countOf predictions isPermutation addDeltas added reaches exceeds counter lengthAnswer candidatesRefusal candidatesCall gainRefusal gainCall searchRefusal searchCall storedRefusal storedCall treeRefusal treeCall predictRefusal predictCall guesses guessesAnswer permutationAnswer placeOf isNear firstBarring whyOf whyRefusal whyCall askedRefusal whyProgram bytes same parts valueOf number cell cellsOf hexValueOf threshold decimalOf hexOf line readLine readLines readInput deckRefusal cutLines sheetText program flatten
 marked-right = refl
