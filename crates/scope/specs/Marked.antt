@@ -153,7 +153,6 @@ run (originsIn source) =
     let call = treeCall (record { matrix = column hump; settings = settings; room = ample }) in
     let originOf : Record → Origin = λ r. r .origin in
     inTree (map originOf (call .records)) (map originOf (flatten (map (λ (d : Node). one (d .choice)) (call .nodes))))
-
 run (openedBy n d room) = let told = openCall (record { n = n; d = d; room = room }) in sums (told .answer) (told .sums)
 run (lotTo st values room) = state (feedCall (record { state = st; lot = values; sums = replicate room (whole 0) }) .answer)
 run (closedAt st) = state (closeAnswer st)
