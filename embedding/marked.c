@@ -1,8 +1,9 @@
-/* The marked cases of document 01, some of them with a closed end, some draws, where records come from, each reason for a row, and each
-   refusal, through the C functions: one line for each call, held to marked.stdout. Arrays that are written are mostly lent longer than
-   their room, some exactly as long, and shorter where 7 is to be given; more stands behind each. `touched` is printed where an entry that
-   was not told, lent or not, is not as it was. */
+/* The marked cases of document 01, some of them with a closed end, some draws, where records come from, each reason for a row, runs that
+   are fed, and each refusal, through the C functions: one line for each call, held to marked.stdout. Arrays that are written are mostly
+   lent longer than their room, some exactly as long, and shorter where 7 is to be given; more stands behind each. `touched` is printed
+   where an entry that was not told, lent or not, is not as it was. */
 #include <inttypes.h>
+#include <math.h>
 #include <stdio.h>
 #include <string.h>
 
@@ -142,28 +143,34 @@ static bool same_node(const struct changeforest_node *a, const struct changefore
            same_record(&a->choice, &b->choice) && a->left == b->left && a->right == b->right;
 }
 
-/* B = 13 for the longest run here, T = 10 at most unless 6 is to be given. Without a choice all of it is zero. */
-static void tree(const char *name, const double *cells, size_t n, bool closed, double threshold, struct lists l, size_t room,
-                 size_t counts_len)
-{
-    double sums[ROOM], gains[ROOM];
-    size_t rows[2 * ROOM], cuts[ROOM], counts[5] = {77, 77, 77, 77, 77};
-    static const struct changeforest_node other = {77, 77, true, true, {77, 77, 77, 7.5, 77, 77}, 77, 77};
-    static const struct changeforest_record zero;
+/* What a tree is grown in. B = 13 for the longest run here, T = 10 at most unless 6 is to be given. */
+struct grown {
+    double gains[ROOM];
+    size_t rows[2 * ROOM], cuts[ROOM], counts[5];
     struct changeforest_node nodes[ROOM];
+};
+static const struct changeforest_node other = {77, 77, true, true, {77, 77, 77, 7.5, 77, 77}, 77, 77};
+
+static void fill_grown(struct grown *g)
+{
     for (size_t i = 0; i < ROOM; i++)
-        nodes[i] = other;
-    fill_floats(sums);
-    fill_floats(gains);
-    fill_rows(rows);
-    fill_rows(rows + ROOM);
-    fill_rows(cuts);
-    uint32_t no = changeforest_tree(cells, n, n, 1, 1, closed, threshold, none, 0, l.layers, l.layers_len, l.draws, l.draws_len, l.w, sums,
-                                    n + 1 + SPARE, rows, 2 * ROOM, gains, ROOM, nodes, room, cuts, ROOM, counts, counts_len);
-    size_t told = no == 0 ? counts[0] : 0;
-    printf("%s %zu %zu %zu %zu %zu nodes", name, counts[0], counts[1], counts[2], counts[3], counts[4]);
+        g->nodes[i] = other;
+    for (size_t i = 0; i < LEN(g->counts); i++)
+        g->counts[i] = 77;
+    fill_floats(g->gains);
+    fill_rows(g->rows);
+    fill_rows(g->rows + ROOM);
+    fill_rows(g->cuts);
+}
+
+/* Without a choice all of it is zero. */
+static void grown_told(const char *name, const struct grown *g, uint32_t no)
+{
+    static const struct changeforest_record zero;
+    size_t told = no == 0 ? g->counts[0] : 0;
+    printf("%s %zu %zu %zu %zu %zu nodes", name, g->counts[0], g->counts[1], g->counts[2], g->counts[3], g->counts[4]);
     for (size_t i = 0; i < told; i++) {
-        const struct changeforest_node *x = &nodes[i];
+        const struct changeforest_node *x = &g->nodes[i];
         printf(" %zu,%zu,%d:", x->start, x->stop, x->significant);
         if (x->has_choice)
             printf("%zu,%016" PRIx64 ",%zu,%zu,%zu,%zu", x->choice.split, bits(x->choice.gain), x->choice.start, x->choice.stop,
@@ -173,16 +180,76 @@ static void tree(const char *name, const double *cells, size_t n, bool closed, d
         printf(":%zu,%zu", x->left, x->right);
     }
     for (size_t i = told; i < ROOM; i++)
-        if (!same_node(&nodes[i], &other))
+        if (!same_node(&g->nodes[i], &other))
             printf(" touched");
     printf(" cuts");
-    rows_told(cuts, no == 0 ? counts[2] : 0);
+    rows_told(g->cuts, no == 0 ? g->counts[2] : 0);
     printf(" rows");
-    rows_told(rows, no == 0 ? 5 * counts[1] : 0);
-    rows_told(rows + ROOM, 0);
+    rows_told(g->rows, no == 0 ? 5 * g->counts[1] : 0);
+    rows_told(g->rows + ROOM, 0);
     printf(" gains");
-    floats_told(gains, no == 0 ? counts[1] : 0);
+    floats_told(g->gains, no == 0 ? g->counts[1] : 0);
     end(no);
+}
+
+static void tree(const char *name, const double *cells, size_t n, bool closed, double threshold, struct lists l, size_t room,
+                 size_t counts_len)
+{
+    double sums[ROOM];
+    struct grown g;
+    fill_floats(sums);
+    fill_grown(&g);
+    uint32_t no = changeforest_tree(cells, n, n, 1, 1, closed, threshold, none, 0, l.layers, l.layers_len, l.draws, l.draws_len, l.w, sums,
+                                    n + 1 + SPARE, g.rows, 2 * ROOM, g.gains, ROOM, g.nodes, room, g.cuts, ROOM, g.counts, counts_len);
+    grown_told(name, &g, no);
+}
+
+/* Of three rows, of two columns unless d is to be refused. */
+static void open_run(const char *name, size_t d, size_t room)
+{
+    double sums[ROOM];
+    size_t count = 77;
+    fill_floats(sums);
+    uint32_t no = changeforest_open(3, d, sums, room, &count);
+    printf("%s %zu sums", name, count);
+    floats_told(sums, no == 0 ? d : 0);
+    end(no);
+}
+
+/* Behind count cells of that run, 1 to 6. The sums of all cells taken are told, of a lot that is refused those before it. */
+static void lot(const char *name, size_t d, size_t count, const double *cells, size_t len, size_t room)
+{
+    static const double before[] = {0, 0, 1, 2, 4, 6, 9, 12};
+    double sums[ROOM];
+    fill_floats(sums);
+    size_t told = count <= 6 ? 2 + count : LEN(before);
+    memcpy(sums, before, told * sizeof before[0]);
+    uint32_t no = changeforest_feed(cells, len, 3, d, sums, room, &count);
+    printf("%s %zu sums", name, count);
+    floats_told(sums, no == 0 ? 2 + count : told);
+    end(no);
+}
+
+static void close_run(const char *name, size_t d, size_t count)
+{
+    printf("%s", name);
+    end(changeforest_close(3, d, count));
+}
+
+/* Of eight rows of one column. Behind the sums stand others, lent or not; all stay as they were. */
+static void later(const char *name, const double *sums, size_t sums_len, size_t d, size_t count, size_t m, bool closed, double threshold,
+                  struct lists l, size_t room, size_t counts_len)
+{
+    double lent[9 + SPARE];
+    struct grown g;
+    memcpy(lent, sums, sizeof lent);
+    fill_grown(&g);
+    uint32_t no = changeforest_fed_tree(lent, sums_len, 8, d, count, m, closed, threshold, none, 0, l.layers, l.layers_len, l.draws,
+                                        l.draws_len, l.w, g.rows, 2 * ROOM, g.gains, ROOM, g.nodes, room, g.cuts, ROOM, g.counts,
+                                        counts_len);
+    grown_told(name, &g, no);
+    if (memcmp(lent, sums, sizeof lent) != 0)
+        printf("touched\n");
 }
 
 /* Rows 5 and 6 are barred, 6 twice. Of the outputs, those that the reason does not go with stay 77 and 7.5. */
@@ -311,6 +378,9 @@ int main(void)
     static const double two[] = {0.25, 0.5};
     static const struct lists second = {two, LEN(two), none, 0, 0};
     static const double high[] = {1e308, 1e308, 1e308}, steep[] = {0, 0, 1e308, 1e308};
+    static const double fed[] = {1, 2, 3, 4, 5, 6}, unfit[] = {2, 3, NAN, 5};
+    static const double m7_sums[9 + SPARE] = {0, 0, 0, 0, 0, 8, 16, 24, 32, NAN}, bump_sums[9 + SPARE] = {0, 0, 0, 8, 16, 16, 16, 16, 16};
+    static const double odd_sums[9 + SPARE] = {0, 0, 0, 8, NAN, 16, INFINITY, 16, 16};
 
     candidates("M1", 10, 3, false, none, 0, 10, 4 + SPARE);
     candidates("M2", 10, 5, false, none, 0, 10, 0);
@@ -374,6 +444,20 @@ int main(void)
     why("last row", last, LEN(last), false, 48, nothing, 3, SPARE, 0);
     why("last row closed", last, LEN(last), true, 48, nothing, 3, SPARE, 0);
 
+    open_run("open", 2, 8 + SPARE);
+    open_run("open exactly", 2, 8);
+    lot("lot of one", 2, 0, fed, 1, 8 + SPARE);
+    lot("lot of four", 2, 1, fed + 1, 4, 8);
+    lot("lot of none", 2, 5, fed, 0, 8);
+    lot("last lot", 2, 5, fed + 5, 1, 8 + SPARE);
+    lot("lot of none behind it", 2, 6, fed, 0, 8);
+    close_run("close", 2, 6);
+    later("later M7", m7_sums, 9, 1, 8, 1, false, 10, nothing, 13, 4);
+    later("later M7 with a layer", m7_sums, 9 + SPARE, 1, 8, 1, false, 10, layered(half), 13, 4);
+    later("later M7 closed", m7_sums, 9, 1, 8, 4, true, 10, nothing, 3, 4);
+    later("later sheet of draws", bump_sums, 9 + SPARE, 1, 8, 1, false, 40, drawn(draws, LEN(draws), 1), 13, 5);
+    later("later odd sums", odd_sums, 9, 1, 8, 1, false, 40, nothing, 13, 4);
+
     candidates("no rows", 0, 3, false, none, 0, 10, 4);
     length("half", 0.5, 100);
     test("alpha", 1, 3, false, m10, LEN(m10), 1);
@@ -431,5 +515,33 @@ int main(void)
     why_in("short text of 8", m7, LEN(m7), false, 10, nothing, 8, SPARE, 0, TEXT - 1);
     why_in("no text", m7, LEN(m7), false, 10, nothing, 4, SPARE, 0, 0);
     why_in("no text and NaN", m7, LEN(m7), false, infinite[1] - infinite[1], nothing, 4, SPARE, 0, 0);
+
+    open_run("open no columns", 0, 8);
+    open_run("open 65 columns", 65, 8);
+    open_run("open in short room", 2, 7);
+    lot("lot of no columns", 0, 7, unfit, 3, 7);
+    lot("bad cell", 2, 1, unfit, 4, 8 + SPARE);
+    lot("bad cell, short and too many", 2, 4, unfit, 3, 7);
+    lot("lot in short room", 2, 5, fed, 2, 7);
+    lot("too many", 2, 5, fed, 2, 8 + SPARE);
+    lot("too many before", 2, 7, fed, 0, 8);
+    lot("too many for 64 bits", 2, SIZE_MAX, fed, 2, 8);
+    close_run("close no columns", 0, 7);
+    close_run("close too many", 2, 7);
+    close_run("close the most of all", 2, SIZE_MAX);
+    close_run("close early", 2, 5);
+    close_run("close at once", 2, 0);
+    later("later no columns", m7_sums, 8, 0, 9, 0, false, 10, nothing, 13, 4);
+    later("later m of 0", m7_sums, 8, 1, 9, 0, false, NAN, nothing, 13, 4);
+    later("later NaN", m7_sums, 8, 1, 9, 1, false, NAN, drawn(past, 3, 1), 13, 4);
+    later("later odd draws", m7_sums, 8, 1, 9, 1, false, 10, drawn(past, 3, 4097), 13, 4);
+    later("later 4,097 records", m7_sums, 8, 1, 9, 1, false, 10, drawn(past, LEN(past), 4097), 13, 4);
+    later("later short sums", m7_sums, 8, 1, 9, 1, false, 10, drawn(past, LEN(past), 1), 13, 4);
+    later("later short nodes", m7_sums, 9, 1, 9, 1, false, 10, drawn(past, LEN(past), 1), 12, 4);
+    later("later short counts", m7_sums, 9, 1, 9, 1, false, 10, drawn(past, LEN(past), 1), 13, 3);
+    later("later past the run", m7_sums, 9, 1, 9, 1, false, 10, drawn(past, LEN(past), 1), 13, 4);
+    later("later too many", m7_sums, 9, 1, 9, 1, false, 10, nothing, 13, 4);
+    later("later past the run early", m7_sums, 9, 1, 7, 1, false, 10, drawn(past, LEN(past), 1), 13, 4);
+    later("later early", m7_sums, 9, 1, 7, 1, false, 10, nothing, 13, 4);
     return 0;
 }

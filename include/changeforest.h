@@ -11,11 +11,12 @@
    - an array that is written, and an output, overlap no other array and no other output of the call. Arrays that are only read may
      overlap each other;
    - the stack has room: 16 KiB; for changeforest_permutation_test 80 KiB more where the first curve is longer than 4,096 (it is then
-     refused); for changeforest_tree 1 KiB more for each level of the tree, of which there are at most the greater of 1 and
-     floor((n-1)/m), or floor(n/m) where closed is true. So 5 MiB are always enough, and a thread may have less.
+     refused); for changeforest_tree and changeforest_fed_tree 1 KiB more for each level of the tree, of which there are at most the
+     greater of 1 and floor((n-1)/m), or floor(n/m) where closed is true. So 5 MiB are always enough, and a thread may have less.
    Every other value of the arguments is allowed, and is answered or refused.
 
-   A call allocates nothing, keeps no pointer, and has no state: calls on memory of their own may run at the same time.
+   A call allocates nothing, keeps no pointer, and has no state but what it is passed: calls on memory of their own may run at the same
+   time.
 
    Sizes: n 1 to 4,096 rows (1,024 for ordering and predict), d 1 to 64 columns, m 1 to 4,096. A matrix is n*d cells, row after row.
    forbidden is a list of pairs a, b: the rows a < x <= b are barred. A segment [start, stop) has the rows from start to stop-1.
@@ -28,6 +29,11 @@
    the rows x that are not barred with start+m <= x and x+m < stop, or x+m <= stop where closed is true. Where it is false all is as in
    the original changeforest, which has no such setting.
 
+   While a deck feeds, a run's cells come in lots, row after row, a lot ending anywhere or being empty. What stands between two calls is
+   the caller's: n and d; count, how many cells were taken; and sums. Where each call finds them as the last one left them, the first
+   d+count entries of sums are the prefix sums of the cells so far, however they were cut up, and once all n*d were taken
+   changeforest_fed_tree answers what changeforest_tree does of the whole matrix. With any others a call still answers or refuses.
+
    Refusals; of those that apply to a call the lowest number is given:
     1  n or d outside its size, or cells_len not n*d
     2  m outside its size, or a relative length not strictly between 0 and 0.5
@@ -35,13 +41,15 @@
     4  an infinite or NaN cell, likelihood, delta, base or observed maximum
     5  forbidden_len odd, or a forbidden pair with a > b; draws_len odd
     6  more than 64 layers, or a layer value not in [1/4096, 1); layers and draws both; w above 4,096, with draws or without
-    7  an array that is written is shorter than its room
+    7  an array that is written is shorter than its room; for fed_tree also sums
     8  start > stop or stop > n; a split below start or above stop; for predict also start = stop; a draw with stop > n, also one that is
        passed over or not reached; for why a row at or past n
     9  2*m >= stop-start, or where closed is true 2*m > stop-start; for permutations likewise with L for stop-start
    10  every row of the candidate range is barred
    11  no list of p permutations of 0..L-1, or p above 999
-   12  curves: their number, their lengths, or a guess that is no candidate */
+   12  curves: their number, their lengths, or a guess that is no candidate
+   13  more cells than n*d: count, and for feed lot_len besides
+   14  fewer cells than n*d, for close and fed_tree */
 
 #ifndef CHANGEFOREST_H
 #define CHANGEFOREST_H
@@ -126,6 +134,28 @@ uint32_t changeforest_tree(const double *cells, size_t cells_len, size_t n, size
                            size_t draws_len, size_t w, double *sums, size_t sums_len, size_t *rows, size_t rows_len, double *gains,
                            size_t gains_len, struct changeforest_node *nodes, size_t nodes_len, size_t *cuts, size_t cuts_len,
                            size_t *counts, size_t counts_len);
+
+/* Opens a run of which no cell is taken: d zeros into sums, the first row of its prefix sums, and 0 into count. Room: sums (n+1)*d, for
+   the whole run. Refusals: 1 (n and d), 7. */
+uint32_t changeforest_open(size_t n, size_t d, double *sums, size_t sums_len, size_t *count);
+
+/* Takes a lot of cells, the next ones after count, which is read and then lot_len more: for each cell x, in order, its prefix sum into
+   sums, which is (0 + x) + the entry d before it. So lot_len entries of sums change, from d+count on, and no other. A lot that is refused
+   takes nothing, and the run may go on. Room: sums (n+1)*d. Refusals: 1 (n and d), 4, 7, 13. */
+uint32_t changeforest_feed(const double *lot, size_t lot_len, size_t n, size_t d, double *sums, size_t sums_len, size_t *count);
+
+/* Whether a run is whole: 0 where all n*d cells were taken. It stores nothing: a run that is closed too early is open as before.
+   Refusals: 1 (n and d), 13, 14. */
+uint32_t changeforest_close(size_t n, size_t d, size_t count);
+
+/* The later sheet: the tree as changeforest_tree grows it, told as there, over sums in place of a matrix. Of sums the first (n+1)*d
+   entries are read, whatever they hold, NaN and infinities too, and none is written. Room: as for changeforest_tree.
+   Refusals: 1 (n and d), 2, 3 (threshold), 5, 6, 7, 8 (draws), 13, 14. */
+uint32_t changeforest_fed_tree(const double *sums, size_t sums_len, size_t n, size_t d, size_t count, size_t m, bool closed,
+                               double threshold, const size_t *forbidden, size_t forbidden_len, const double *layers, size_t layers_len,
+                               const size_t *draws, size_t draws_len, size_t w, size_t *rows, size_t rows_len, double *gains,
+                               size_t gains_len, struct changeforest_node *nodes, size_t nodes_len, size_t *cuts, size_t cuts_len,
+                               size_t *counts, size_t counts_len);
 
 /* What changeforest_why stores in reason. */
 enum {

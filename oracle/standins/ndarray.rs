@@ -182,6 +182,11 @@ impl Array2<f64> {
         Array2::default(shape)
     }
 
+    pub fn from_flat(shape: (usize, usize), values: Vec<f64>) -> Self {
+        assert!(values.len() == shape.0 * shape.1);
+        Array2 { shape: [shape.0, shape.1], values }
+    }
+
     pub fn from_rows(rows: [&[f64]; 2]) -> Self {
         assert!(rows[0].len() == rows[1].len());
         Array2 { shape: [2, rows[0].len()], values: rows.concat() }

@@ -1,6 +1,6 @@
-//! What a call is asked: the readings, the settings, the segments to store, the curves. Any values are allowed here; the call judges
-//! them. A field that is not given has a default that changes nothing, or one that is refused where it is read: so a later field breaks no
-//! caller who ends in `..Settings::default()`.
+//! What a call is asked: the readings, or the state of a run that is fed them, the settings, the segments to store, the curves. Any values
+//! are allowed here; the call judges them. A field that is not given has a default that changes nothing, or one that is refused where it
+//! is read: so a later field breaks no caller who ends in `..Settings::default()`.
 
 /// Readings, row after row. Judged by refusal 1: 1 to 4,096 rows (1,024 where neighbours are ordered), 1 to 64 columns, and
 /// `rows * columns` cells.
@@ -9,6 +9,15 @@ pub struct Matrix<'a> {
     pub cells: &'a [f64],
     pub rows: usize,
     pub columns: usize,
+}
+
+/// Where a run stands while its deck feeds: `rows` rows of `columns` columns, and how many of their cells were taken, row after row. Each
+/// call answers with the state that the next one is handed. Judged by refusals 1, 13 and 14.
+#[derive(Clone, Copy, Debug, Default, PartialEq, Eq)]
+pub struct State {
+    pub rows: usize,
+    pub columns: usize,
+    pub count: usize,
 }
 
 /// How a run is searched. A call reads the fields that its own page names and looks at no other.

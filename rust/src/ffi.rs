@@ -32,6 +32,18 @@ extern "C" {
         sums: *mut f64, sums_len: usize, rows: *mut usize, rows_len: usize, gains: *mut f64, gains_len: usize,
         nodes: *mut Node, nodes_len: usize, cuts: *mut usize, cuts_len: usize, counts: *mut usize, counts_len: usize,
     ) -> u32;
+    pub fn changeforest_open(n: usize, d: usize, sums: *mut f64, sums_len: usize, count: *mut usize) -> u32;
+    pub fn changeforest_feed(
+        lot: *const f64, lot_len: usize, n: usize, d: usize, sums: *mut f64, sums_len: usize, count: *mut usize,
+    ) -> u32;
+    pub fn changeforest_close(n: usize, d: usize, count: usize) -> u32;
+    pub fn changeforest_fed_tree(
+        sums: *const f64, sums_len: usize, n: usize, d: usize, count: usize, m: usize, closed: bool, threshold: f64,
+        forbidden: *const usize, forbidden_len: usize, layers: *const f64, layers_len: usize,
+        draws: *const usize, draws_len: usize, w: usize,
+        rows: *mut usize, rows_len: usize, gains: *mut f64, gains_len: usize,
+        nodes: *mut Node, nodes_len: usize, cuts: *mut usize, cuts_len: usize, counts: *mut usize, counts_len: usize,
+    ) -> u32;
     pub fn changeforest_why(
         cells: *const f64, cells_len: usize, n: usize, d: usize, m: usize, closed: bool, threshold: f64,
         forbidden: *const usize, forbidden_len: usize, layers: *const f64, layers_len: usize,

@@ -7,6 +7,8 @@
 //! entries of it are asked: so a later field breaks no caller who ends in `..TreeRoom::default()`.
 
 mod curves;
+mod feed;
+mod grown;
 mod lengths;
 mod mean;
 mod neighbours;
@@ -15,6 +17,7 @@ mod two_step;
 mod why;
 
 pub use curves::{gain_from_likelihoods, permutation_test};
+pub use feed::{close, fed_tree, feed, open, FedRoom};
 pub use lengths::{minimal_segment_length, nearest_f32};
 pub use mean::{find_best_split, gain, split_candidates};
 pub use neighbours::{ordering, predict, PredictRoom};

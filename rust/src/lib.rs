@@ -12,7 +12,8 @@
 //!
 //! [`lent`] has every function of include/changeforest.h over memory that the caller lends; [`owned`] allocates the room itself. Every
 //! value of the arguments is allowed: it is answered, or refused by a number. A segment is a range of rows of the run; one that is no
-//! range of the run is refused by 8.
+//! range of the run is refused by 8. A run whose cells come in lots is an [`owned::Feed`]; over lent memory each call answers with the
+//! [`State`] for the next.
 //!
 //! A slice hands over its own pointer and length, and `&mut` slices never overlap others: so what the header asks of a caller's pointers
 //! and memory holds for every use of these functions. What it asks of the stack is still the caller's to see to: 16 KiB; up to 144 KiB
@@ -27,5 +28,5 @@ pub mod owned;
 mod refusal;
 
 pub use answers::{Counts, Guesses, Node, Origin, Record, Split, Tested, Tree, Why};
-pub use asked::{Curves, Lists, Matrix, Permutations, Segments, Settings};
+pub use asked::{Curves, Lists, Matrix, Permutations, Segments, Settings, State};
 pub use refusal::Refusal;

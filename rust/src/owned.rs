@@ -1,8 +1,11 @@
 //! The entry points that need room, with room of their own: refusal 7 is never given. The others are those of [`lent`].
 use std::ops::Range;
 
-use crate::lent::{self, PredictRoom, SegmentsRoom, TreeRoom, WhyRoom};
-use crate::{Lists, Matrix, Node, Record, Refusal, Segments, Settings, Split, Tree, Why};
+mod feed;
+
+use crate::lent::{self, FedRoom, PredictRoom, SegmentsRoom, TreeRoom, WhyRoom};
+use crate::{Counts, Lists, Matrix, Node, Record, Refusal, Segments, Settings, Split, Tree, Why};
+pub use feed::Feed;
 
 /// The sizes of documents 01 and 02. Beyond them a call is refused by 1 or 6, whatever its room: none is allocated.
 const MOST_ROWS: usize = 4096;
@@ -95,17 +98,43 @@ fn most_nodes(rows: usize, settings: &Settings) -> usize {
     (2 * parts).saturating_sub(1).max(1)
 }
 
+/// Room for a tree, but for its sums.
+struct Room {
+    rows: Vec<usize>,
+    gains: Vec<f64>,
+    nodes: Vec<Node>,
+    cuts: Vec<usize>,
+}
+
+impl Room {
+    /// Of a run of `rows` rows.
+    fn of(rows: usize, settings: &Settings, lists: Lists) -> Room {
+        let most = most_nodes(rows, settings);
+        let (rows, gains) = records_room(most_stored(lists) + most);
+        Room { rows, gains, nodes: vec![Node::default(); most], cuts: vec![0; (most - 1) / 2] }
+    }
+
+    fn lend(&mut self) -> FedRoom<'_> {
+        FedRoom { rows: &mut self.rows, gains: &mut self.gains, nodes: &mut self.nodes, cuts: &mut self.cuts }
+    }
+
+    /// The tree that was grown here.
+    fn tree(mut self, counts: Counts) -> Tree {
+        self.nodes.truncate(counts.nodes);
+        self.cuts.truncate(counts.cuts);
+        let records = records(&self.rows, &self.gains, counts.records);
+        Tree { nodes: self.nodes, cuts: self.cuts, records, stored: counts.stored }
+    }
+}
+
 /// The tree of the run, over the records of the segments. Reads m, closed, threshold and forbidden.
 pub fn tree(matrix: Matrix, settings: &Settings, segments: Segments) -> Result<Tree, Refusal> {
     let lists = Lists::from(segments);
-    let most = most_nodes(matrix.rows, settings);
-    let (mut sums, (mut rows, mut gains)) = (sums_room(matrix), records_room(most_stored(lists) + most));
-    let (mut nodes, mut cuts) = (vec![Node::default(); most], vec![0; (most - 1) / 2]);
-    let room = TreeRoom { sums: &mut sums, rows: &mut rows, gains: &mut gains, nodes: &mut nodes, cuts: &mut cuts };
-    let counts = lent::tree(matrix, settings, lists, room)?;
-    nodes.truncate(counts.nodes);
-    cuts.truncate(counts.cuts);
-    Ok(Tree { nodes, cuts, records: records(&rows, &gains, counts.records), stored: counts.stored })
+    let (mut sums, mut room) = (sums_room(matrix), Room::of(matrix.rows, settings, lists));
+    let FedRoom { rows, gains, nodes, cuts } = room.lend();
+    let lending = TreeRoom { sums: &mut sums, rows, gains, nodes, cuts };
+    let counts = lent::tree(matrix, settings, lists, lending)?;
+    Ok(room.tree(counts))
 }
 
 /// Why the tree that [`tree`] grows is cut at the row, or is not. Reads m, closed, threshold and forbidden.

@@ -9,7 +9,7 @@ impl Refusal {
     /// The call was not made: the system gave no thread for a tree that can be deep.
     pub(crate) const NO_THREAD: Refusal = Refusal(0);
 
-    /// The number of the refusal, 1 to 12; the lowest that applies. 0 where the library was not called, since the system gave no thread
+    /// The number of the refusal, 1 to 14; the lowest that applies. 0 where the library was not called, since the system gave no thread
     /// for a tree that can be deep.
     pub fn number(self) -> u32 {
         self.0
@@ -40,7 +40,9 @@ impl fmt::Display for Refusal {
             10 => "every candidate is forbidden",
             11 => "no list of permutations",
             12 => "the curves' number or lengths, or a guess that is no candidate",
-            _ => "no number of document 01",
+            13 => "more cells than n*d",
+            14 => "fewer cells were taken than n*d",
+            _ => "no number of documents 01 and 02",
         };
         write!(f, "refusal {}: {}", self.0, why)
     }

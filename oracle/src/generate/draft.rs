@@ -1,5 +1,12 @@
 //! A case before it is written: the fields of every kind, and the line of each.
 
+/// A lot of cells, or the word `close` in its place.
+#[derive(Clone)]
+pub enum Lot {
+    Cells(Vec<f64>),
+    Close,
+}
+
 #[derive(Default)]
 pub struct Draft {
     pub kind: &'static str,
@@ -23,7 +30,13 @@ pub struct Draft {
     pub w: u64,
     /// The row that is asked about.
     pub row: u64,
+    /// The matrix; of a run that is fed, what its lots or its sums are made of.
     pub cells: Vec<f64>,
+    /// How many cells were taken.
+    pub count: u64,
+    /// The sums as they are found.
+    pub sums: Vec<f64>,
+    pub lots: Vec<Lot>,
     /// Both likelihood rows, the pick's curve, or the deltas.
     pub curves: Vec<Vec<f64>>,
     pub bases: Vec<f64>,
@@ -50,6 +63,13 @@ fn numbers(entries: &[u64]) -> String {
 
 fn values(entries: &[f64]) -> String {
     list(entries, bits)
+}
+
+fn lot(lot: &Lot) -> String {
+    match lot {
+        Lot::Cells(cells) => values(cells),
+        Lot::Close => "close".into(),
+    }
 }
 
 impl Draft {
@@ -84,7 +104,7 @@ impl Draft {
     fn fields(&self) -> String {
         let (n, d, m, cells) = (self.n, self.d, self.m, values(&self.cells));
         let (start, stop, split) = (self.start, self.stop, self.split);
-        let (value, barred) = (bits(self.value), self.barred());
+        let (value, barred, count) = (bits(self.value), self.barred(), self.count);
         match self.kind {
             "rel" => format!("{value} {n}"),
             "f32" => value,
@@ -98,12 +118,25 @@ impl Draft {
                 let (lists, row) = (self.lists(), self.row);
                 format!("{n} {d} {m} {value} {barred} {lists} {row} {cells}")
             }
+            "feed" => self.feed(),
+            "lot" => format!("{n} {d} {count} {} {}", values(&self.sums), lot(&self.lots[0])),
+            "close" => format!("{n} {d} {count}"),
+            "fedtree" => {
+                let (lists, sums) = (self.lists(), values(&self.sums));
+                format!("{n} {d} {count} {m} {value} {barred} {lists} {sums}")
+            }
             "order" => format!("{n} {d} {cells}"),
             "curve" => format!("{} {}", values(&self.curves[0]), values(&self.curves[1])),
             "pick" => format!("{n} {} {split} {}", self.ends(), values(&self.curves[0])),
             "perm" => self.perm(),
             _ => unreachable!(),
         }
+    }
+
+    fn feed(&self) -> String {
+        let fields = [self.n.to_string(), self.d.to_string(), values(&self.sums)];
+        let lots = [self.lots.len().to_string()].into_iter().chain(self.lots.iter().map(lot));
+        joined(fields.into_iter().chain(lots))
     }
 
     fn perm(&self) -> String {

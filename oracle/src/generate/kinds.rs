@@ -3,18 +3,23 @@
 use crate::draft::Draft;
 use crate::draws;
 use crate::random::Random;
-use crate::{rows, spoil, values};
+use crate::{feed, rows, spoil, values};
 
-pub const KINDS: [&str; 15] = [
-    "rel", "f32", "cand", "gain", "search", "stored", "tree", "wild", "why", "order", "knn",
-    "curve", "pick", "guesses", "perm",
+pub const KINDS: [&str; 19] = [
+    "rel", "f32", "cand", "gain", "search", "stored", "tree", "wild", "why", "feed", "lot",
+    "close", "fedtree", "order", "knn", "curve", "pick", "guesses", "perm",
 ];
 
 /// Those that take the prefix `closed`.
-pub const CLOSED: [&str; 8] = ["cand", "search", "tree", "wild", "why", "pick", "guesses", "perm"];
+pub const CLOSED: [&str; 9] =
+    ["cand", "search", "tree", "wild", "why", "fedtree", "pick", "guesses", "perm"];
 
 /// Those that take draws.
-pub const DRAWING: [&str; 3] = ["stored", "wild", "why"];
+pub const DRAWING: [&str; 4] = ["stored", "wild", "why", "fedtree"];
+
+/// Those that have a matrix, or are made of one.
+const MEASURED: [&str; 11] =
+    ["gain", "search", "stored", "tree", "wild", "why", "feed", "lot", "fedtree", "order", "knn"];
 
 pub const FAR: [u64; 4] = [u64::MAX, u64::MAX - 1, 1 << 63, 1 << 40];
 
@@ -259,8 +264,8 @@ fn cut_everywhere(random: &mut Random, draft: &mut Draft) {
     }
     (draft.value, draft.forbidden) = (-1.0, None);
     if random.one_in(2) {
-        let slices = spoil::slices(draft.kind);
-        draft.short = Some((random.between(2, slices), random.of(&[0, 0, 1])));
+        let (first, last) = (spoil::grown_slice(draft.kind), spoil::slices(draft.kind));
+        draft.short = Some((random.between(first, last), random.of(&[0, 0, 1])));
     }
 }
 
@@ -269,7 +274,7 @@ pub fn draft(random: &mut Random, kind: &'static str, closed_in: u64) -> Draft {
     let n = rows(random);
     let closed = CLOSED.contains(&kind) && random.one_in(closed_in);
     let mut draft = Draft { kind, n, closed, ..Draft::default() };
-    if matches!(kind, "gain" | "search" | "stored" | "tree" | "wild" | "why" | "order" | "knn") {
+    if MEASURED.contains(&kind) {
         let n = if matches!(kind, "order" | "knn") { n.min(100) } else { n };
         let d = columns(random, n);
         matrix(random, &mut draft, n, d);
@@ -305,7 +310,7 @@ pub fn draft(random: &mut Random, kind: &'static str, closed_in: u64) -> Draft {
             segment(random, &mut draft);
             draft.layers = values::layers(random);
         }
-        "tree" | "wild" | "why" => {
+        "tree" | "wild" | "why" | "fedtree" => {
             segment(random, &mut draft);
             draft.value = threshold(random);
             draft.layers = values::layers(random);
@@ -316,7 +321,8 @@ pub fn draft(random: &mut Random, kind: &'static str, closed_in: u64) -> Draft {
                 _ => (),
             }
         }
-        "order" => (),
+        "close" => feed::state(random, &mut draft),
+        "order" | "feed" | "lot" => (),
         "curve" => curve(random, &mut draft),
         "pick" => {
             segment(random, &mut draft);
@@ -334,5 +340,6 @@ pub fn draft(random: &mut Random, kind: &'static str, closed_in: u64) -> Draft {
         }
         rows::ask(random, &mut draft);
     }
+    feed::hand_over(random, &mut draft);
     draft
 }

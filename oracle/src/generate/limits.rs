@@ -17,9 +17,17 @@ pub fn at_limit(random: &mut Random, draft: &mut Draft) {
     draft.short = None;
     match draft.kind {
         "gain" | "search" => searched(random, draft),
-        "stored" | "wild" | "why" if !random.one_in(3) => drawn(random, draft),
+        "stored" | "wild" | "why" | "fedtree" if !random.one_in(3) => drawn(random, draft),
         "stored" => layered(random, draft),
-        "tree" | "wild" | "why" => tree(random, draft),
+        "tree" | "wild" | "why" | "fedtree" => tree(random, draft),
+        "lot" => large(random, draft),
+        "feed" => fed(random, draft),
+        "close" => {
+            let (n, d) = random.of(&[(4_096, 64), (4_096, 1), (1, 64), (4_097, 64), (4_096, 65)]);
+            let all = n * d;
+            (draft.n, draft.d) = (n, d);
+            draft.count = random.of(&[all - 1, all, all, all + 1, (1 << 32) + all]);
+        }
         "order" | "knn" => {
             let some = random.between(513, 1_022);
             let n = random.of(&[512, some, 1_023, 1_024]);
@@ -61,6 +69,14 @@ fn large(random: &mut Random, draft: &mut Draft) {
     matrix(random, draft, n, d);
     (draft.start, draft.stop) = (0, n);
     draft.forbidden = None;
+}
+
+/// A run whose cells and sums have room on one line: 28 columns of 4,096 rows make one of nearly 4 MB, and
+/// so do 1,830 rows of 64.
+fn fed(random: &mut Random, draft: &mut Draft) {
+    let few = random.of(&[2, 3, 4, 8]);
+    let (n, d) = random.of(&[(4_096, 1), (4_096, few), (4_095, 7), (4_096, 28), (1_830, 64)]);
+    matrix(random, draft, n, d);
 }
 
 fn searched(random: &mut Random, draft: &mut Draft) {

@@ -4,6 +4,7 @@
 
 mod draft;
 mod draws;
+mod feed;
 mod kinds;
 mod limits;
 mod random;
@@ -39,14 +40,18 @@ fn kind(random: &mut Random, sort: &'static str, kinds: &[&'static str]) -> &'st
     }
 }
 
-/// A line, or those of a run that is gone through.
+/// A line, or those of a run that is gone through or cut up.
 fn lines(random: &mut Random, sort: &str, kind: &'static str, closed_in: u64) -> Vec<String> {
     let mut draft = kinds::draft(random, kind, closed_in);
     if at_limit(random, sort, &mut draft) {
         if kind == rows::ASKING {
             rows::ask(random, &mut draft);
         }
+        feed::hand_over(random, &mut draft);
         return vec![draft.line()];
+    }
+    if sort != UNKNOWN && feed::is_cut_up(random, &draft) {
+        return feed::cuttings(random, &mut draft);
     }
     if sort != UNKNOWN && rows::goes_through(random, &draft) {
         return rows::lines(&mut draft);

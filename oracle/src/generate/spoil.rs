@@ -3,7 +3,7 @@
 use crate::draft::Draft;
 use crate::kinds::{permutations, CLOSED, DRAWING, FAR};
 use crate::random::Random;
-use crate::{rows, values};
+use crate::{feed, rows, values};
 
 /// The refusals that a kind can give.
 pub fn numbers(kind: &str) -> &'static [u64] {
@@ -16,6 +16,10 @@ pub fn numbers(kind: &str) -> &'static [u64] {
         "tree" => &[1, 2, 3, 4, 5, 6, 6, 7, 7],
         "wild" => &[1, 2, 3, 4, 5, 6, 6, 7, 7, 8],
         "why" => &[1, 2, 3, 4, 5, 6, 6, 7, 7, 8, 8],
+        "feed" => &[1, 7],
+        "lot" => &[1, 4, 7, 13],
+        "close" => &[1, 13, 14],
+        "fedtree" => &[1, 2, 3, 5, 6, 6, 7, 7, 8, 13, 14],
         "order" => &[1, 4, 7],
         "curve" => &[4, 7, 12],
         "pick" => &[1, 2, 5, 8, 9, 10, 12],
@@ -30,14 +34,25 @@ pub fn slices(kind: &str) -> u64 {
     match kind {
         "cand" | "gain" | "search" | "curve" => 1,
         "order" | "stored" => 2,
-        "knn" | "why" => 3,
+        "knn" | "why" | "fedtree" => 3,
         "tree" | "wild" => 4,
         _ => 0,
     }
 }
 
+/// The first of the slices that a tree is grown in: records, nodes, cuts; but for `fedtree` sums stand
+/// before them.
+pub fn grown_slice(kind: &str) -> u64 {
+    if kind == "fedtree" {
+        1
+    } else {
+        2
+    }
+}
+
 pub fn spoil(random: &mut Random, draft: &mut Draft, number: u64) {
     match number {
+        1 if feed::KINDS.contains(&draft.kind) => feed::size(random, draft),
         1 => size(random, draft),
         2 if draft.kind == "rel" => {
             let above = f64::from_bits(0.5_f64.to_bits() + 1);
@@ -53,11 +68,13 @@ pub fn spoil(random: &mut Random, draft: &mut Draft, number: u64) {
             draft.value =
                 f64::from_bits(random.of(&[0x7ff8 << 48, 0xfff8 << 48, 0x7ff0_dead_0000_0001]))
         }
+        4 if draft.kind == "lot" => feed::bad_cell(random, draft),
         4 => infinite(random, draft),
         5 if drawn_alone(draft) && random.one_in(2) => odd_draws(random, draft),
         5 => list(random, draft),
         6 if DRAWING.contains(&draft.kind) && !random.one_in(3) => lists(random, draft),
         6 => layers(random, draft),
+        7 if feed::KINDS.contains(&draft.kind) && feed::shorter(random, draft) => (),
         7 => {
             let slice = random.between(1, slices(draft.kind));
             draft.short = Some((slice, random.of(&[1, 1, 1, 2, 3, 1_000, u64::MAX])));
@@ -75,6 +92,8 @@ pub fn spoil(random: &mut Random, draft: &mut Draft, number: u64) {
         }
         10 => bar_all(random, draft),
         11 => permutation(random, draft),
+        13 => feed::too_many(random, draft),
+        14 => feed::too_few(random, draft),
         _ => curves(random, draft),
     }
 }

@@ -8,20 +8,22 @@ use crate::random::Random;
 use crate::values::{fine_layers, SMALLEST_LAYER};
 
 /// The kinds that have such cases.
-pub const KINDS: [&str; 10] =
-    ["cand", "gain", "search", "stored", "tree", "wild", "why", "pick", "guesses", "perm"];
+pub const KINDS: [&str; 13] = [
+    "cand", "gain", "search", "stored", "tree", "wild", "why", "feed", "lot", "fedtree", "pick",
+    "guesses", "perm",
+];
 
 /// Makes such a case of one.
 pub fn at_wide(random: &mut Random, draft: &mut Draft) {
     draft.short = None;
     match draft.kind {
-        "gain" => columns(random, draft),
+        "gain" | "feed" | "lot" => columns(random, draft),
         "search" => match random.below(2) {
             0 => columns(random, draft),
             _ => listed(random, draft),
         },
-        "stored" | "wild" | "why" if random.one_in(2) => drawn(random, draft),
-        "stored" | "tree" | "wild" | "why" => layered(random, draft),
+        "stored" | "wild" | "why" | "fedtree" if random.one_in(2) => drawn(random, draft),
+        "stored" | "tree" | "wild" | "why" | "fedtree" => layered(random, draft),
         "perm" => {
             let some = random.between(263, 4_095);
             let (p, length) = random.of(&[(999, 263), (999, some), (999, 4_096), (1_000, 4_096)]);

@@ -1,9 +1,9 @@
 //! The answer line of a case.
 
-use crate::{original, rules, why};
+use crate::{feed, original, rules, why};
 use protocol::{
-    Cand, Capacities, Case, Curve, Gain, Guesses, Knn, Line, Order, Perm, Pick, Rel, Search,
-    Stored, Tree, Why, Wild, F32,
+    Cand, Capacities, Case, Close, Curve, FedTree, Feed, Gain, Guesses, Knn, Line, Lot, Order,
+    Perm, Pick, Rel, Search, Stored, Tree, Why, Wild, F32,
 };
 use std::panic::{catch_unwind, AssertUnwindSafe};
 
@@ -35,10 +35,21 @@ pub fn answer(line: &[u8], capacities: Capacities) -> Result<Answer, String> {
         let source = if own.contains(&(number, true)) { "rust" } else { "rules" };
         return Ok(Answer { text: format!("refused {number} kept"), source });
     }
-    match catch_unwind(AssertUnwindSafe(|| values(&line.case))) {
-        Ok(text) => Ok(Answer { text: format!("ok{text} kept"), source: "rust" }),
+    let source = if matches!(line.case, Case::Close(_)) { "rules" } else { "rust" };
+    match catch_unwind(AssertUnwindSafe(|| told(&line.case))) {
+        Ok(text) => Ok(Answer { text, source }),
         Err(_) => Err("the Rust panics on a case that the rules admit".into()),
     }
+}
+
+/// The line of an admitted case.
+fn told(case: &Case) -> String {
+    let values = values(case);
+    let agrees = match case {
+        Case::FedTree(case) => feed::of_its_matrix(case).is_none_or(|tree| tree == values),
+        _ => true,
+    };
+    format!("ok{values} {}", if agrees { "kept" } else { "disagrees" })
 }
 
 /// What the Rust answers to an admitted case.
@@ -62,6 +73,15 @@ fn values(case: &Case) -> String {
         Case::Tree(case) => Tree::answer(&original::tree(case)),
         Case::Wild(Wild(case)) => Wild::answer(&original::tree(case)),
         Case::Why(case) => Why::answer(&why::why(case)),
+        Case::Feed(case) => {
+            let (steps, closing, sums) = feed::feed(case);
+            Feed::answer(&steps, closing, &sums)
+        }
+        Case::Lot(case @ Lot { state, cells, .. }) => {
+            Lot::answer(state.count + cells.len(), &feed::lot(case))
+        }
+        Case::Close(Close { state }) => Close::answer(state.count),
+        Case::FedTree(case) => FedTree::answer(&feed::tree(case)),
         Case::Order(Order { matrix }) => {
             let (ordering, distances) = original::order(matrix);
             Order::answer(&ordering, &distances)

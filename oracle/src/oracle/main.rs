@@ -8,6 +8,7 @@
 
 mod answer;
 mod deck;
+mod feed;
 mod original;
 mod rules;
 mod why;

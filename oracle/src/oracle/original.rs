@@ -12,8 +12,8 @@ use changeforest::{
 };
 use ndarray::{Array1, Array2, ArrayView2};
 use protocol::{
-    Cand, Case, Forbidden, Grown, Guesses, Matrix, Node, Origin, Perm, Pick, Record, Rel, Search,
-    Segment, Shortest, Stored, Tree, Why, Wild,
+    Cand, Case, FedTree, Forbidden, Grown, Guesses, Matrix, Node, Origin, Perm, Pick, Record, Rel,
+    Search, Segment, Shortest, Stored, Tree, Why, Wild,
 };
 use std::panic::catch_unwind;
 
@@ -144,6 +144,10 @@ pub fn gain(matrix: &Matrix, start: usize, stop: usize, split: usize) -> (f64, V
     (gain, sums)
 }
 
+pub fn sums(matrix: &Matrix) -> Vec<f64> {
+    gain(matrix, 0, 0, 0).1
+}
+
 pub fn search(matrix: &Matrix, segment: &Segment) -> Record {
     let (view, control) = (view(matrix), control(segment.shortest, &segment.forbidden));
     let grid = GridSearch { gain: ChangeInMean::new(&view, &control) };
@@ -178,9 +182,25 @@ pub fn stored(case: &Stored) -> Vec<Record> {
 }
 
 pub fn tree(case: &Tree) -> Grown {
-    let view = view(&case.stored.matrix);
+    tree_of(case, &case.stored.matrix)
+}
+
+pub fn tree_of(case: &Tree, matrix: &Matrix) -> Grown {
+    grown(case, matrix, None)
+}
+
+/// The tree over sums that are lent. Of a matrix the Rust then looks at nothing but the shape.
+pub fn tree_over(case: &Tree, sums: &[f64]) -> Grown {
+    let Matrix { n, d, .. } = case.stored.matrix;
+    let shape = Matrix { n, d, cells: vec![f64::NAN; n * d] };
+    grown(case, &shape, Some(Array2::from_flat((n + 1, d), sums.to_vec())))
+}
+
+fn grown(case: &Tree, matrix: &Matrix, lent_sums: Option<Array2<f64>>) -> Grown {
+    let view = view(matrix);
     let control = storing(&case.stored).with_minimal_gain_to_split(Some(case.threshold));
     let grid = GridSearch { gain: ChangeInMean::new(&view, &control) };
+    grid.gain.X_cumsum.replace(lent_sums);
     let mut segmentation = segmentation(&case.stored, &grid);
     let stored = segmentation.segments.len();
     let mut tree = BinarySegmentationTree::new(&view);
@@ -309,10 +329,13 @@ pub fn own(case: &Case) -> Vec<(usize, bool)> {
         Case::Stored(stored)
         | Case::Tree(Tree { stored, .. })
         | Case::Wild(Wild(Tree { stored, .. }))
-        | Case::Why(Why { tree: Tree { stored, .. }, .. }) => match odd(&stored.lists.draws) {
-            true => vec![],
-            false => own_list(&stored.forbidden),
-        },
+        | Case::Why(Why { tree: Tree { stored, .. }, .. })
+        | Case::FedTree(FedTree { tree: Tree { stored, .. }, .. }) => {
+            match odd(&stored.lists.draws) {
+                true => vec![],
+                false => own_list(&stored.forbidden),
+            }
+        }
         Case::Cand(Cand { segment })
         | Case::Search(Search { segment, .. })
         | Case::Pick(Pick { segment, .. })

@@ -1,11 +1,11 @@
 //! The refusals: a second reading of document 01 ("Refusal numbers", "Sizes"), of the closed end, the
-//! draws and the tool for a row in document 02 and of the decisions that go with them, made for the oracle
-//! alone. Nothing here is taken from the Rust, which has few refusals, nor from the code that the oracle
-//! judges. Rule by rule, in number order.
+//! draws, the tool for a row and the rows while the deck feeds in document 02 and of the decisions that go
+//! with them, made for the oracle alone. Nothing here is taken from the Rust, which has few refusals, nor
+//! from the code that the oracle judges. Rule by rule, in number order.
 
 use protocol::{
-    Cand, Case, Curve, Forbidden, Gain, Guesses, Knn, Lists, Matrix, Perm, Pick, Rel, Segment,
-    Shortest, Stored, Tree, Why, Wild,
+    Cand, Case, Close, Curve, Feed, Forbidden, Gain, Guesses, Knn, Lists, Lot, Matrix, Perm, Pick,
+    Rel, Segment, Shortest, State, Stored, Tree, Why, Wild,
 };
 
 const MOST_ROWS: usize = 4_096;
@@ -21,7 +21,7 @@ const LONGEST_CURVE: usize = 4_096;
 
 /// Which numbers apply; the lowest is given.
 #[derive(Default)]
-pub struct Verdict([bool; 13]);
+pub struct Verdict([bool; 15]);
 
 impl Verdict {
     fn rule(mut self, number: usize, applies: bool) -> Self {
@@ -34,20 +34,24 @@ impl Verdict {
     }
 
     pub fn lowest(&self) -> Option<usize> {
-        (1..=12).find(|number| self.0[*number])
+        (1..=14).find(|number| self.0[*number])
     }
 }
 
-// 1: "n or d outside its size, or length not n*d". Without a matrix, n alone is judged.
+// 1: "n or d outside its size, or length not n*d". Without a matrix, n alone is judged, or n and d ("1 for
+// a size", document 02).
 
 fn rows(n: usize, most: usize) -> bool {
     n < 1 || n > most
 }
 
+fn sizes(n: usize, d: usize, most: usize) -> bool {
+    rows(n, most) || d < 1 || d > MOST_COLUMNS
+}
+
 fn matrix(matrix: &Matrix, most: usize) -> bool {
-    let columns = matrix.d < 1 || matrix.d > MOST_COLUMNS;
     let cells = matrix.n as u128 * matrix.d as u128;
-    rows(matrix.n, most) || columns || matrix.cells.len() as u128 != cells
+    sizes(matrix.n, matrix.d, most) || matrix.cells.len() as u128 != cells
 }
 
 // 2: "m outside its size; or a relative length not strictly between 0 and 0.5 (NaN included)".
@@ -105,7 +109,11 @@ fn both(lists: &Lists) -> bool {
 }
 
 // 7: "a lent working or output slice shorter than stated here": ../protocol/room.rs, from the stated
-// lengths.
+// lengths. Sums that a line lends as they are found, "7 as ever" (document 02): "(n+1)*d f64 of room".
+
+fn short_sums(n: usize, d: usize, room: usize) -> bool {
+    (room as u128) < (n as u128 + 1) * d as u128
+}
 
 // 8: "start > stop or stop > n; a given split (gain, kNN) below start or above stop; for kNN also
 // start = stop"; "also for a draw with stop > n" (document 02), any of the list. A draw with start > stop
@@ -192,6 +200,17 @@ fn bad_lengths(lengths: &[usize]) -> bool {
     lengths.iter().any(bad) || lengths.iter().any(|length| *length != lengths[0])
 }
 
+// 13: "then 13 for too many cells", "more cells than n*d"; 14: "for closing, or asking for the sheet,
+// before n*d cells" (document 02).
+
+fn too_many(state: State, more: usize) -> bool {
+    state.count as u128 + more as u128 > state.n as u128 * state.d as u128
+}
+
+fn too_few(state: State) -> bool {
+    (state.count as u128) < state.n as u128 * state.d as u128
+}
+
 /// 2, 5, 8, 9 and 10 of a segment that is searched.
 fn searched(verdict: Verdict, segment: &Segment) -> Verdict {
     verdict
@@ -224,10 +243,10 @@ fn measured(verdict: Verdict, cells: &Matrix, most: usize) -> Verdict {
     verdict.rule(1, matrix(cells, most)).rule(4, not_finite(&cells.cells))
 }
 
-/// A run, and what is stored before a tree is grown.
+/// What is stored before a tree is grown.
 fn stored(verdict: Verdict, case: &Stored) -> Verdict {
     let Stored { matrix, shortest, forbidden, lists } = case;
-    measured(verdict, matrix, MOST_ROWS)
+    verdict
         .rule(2, minimal_length(*shortest))
         .rule(5, bad_list(forbidden) || odd_draws(&lists.draws))
         .rule(6, bad_layers(&lists.layers) || both(lists) || lists.w > MOST_DRAWN)
@@ -237,6 +256,28 @@ fn stored(verdict: Verdict, case: &Stored) -> Verdict {
 /// That, and a tree's threshold.
 fn grown(verdict: Verdict, case: &Tree) -> Verdict {
     stored(verdict, &case.stored).rule(3, threshold(case.threshold))
+}
+
+/// 1 and 7 of a run that is opened in so much room.
+fn opened(verdict: Verdict, n: usize, d: usize, room: usize) -> Verdict {
+    verdict.rule(1, sizes(n, d, MOST_ROWS)).rule(7, short_sums(n, d, room))
+}
+
+/// Every number that applies to a lot.
+pub fn fed(state: State, cells: &[f64], room: usize) -> Verdict {
+    opened(Verdict::default(), state.n, state.d, room)
+        .rule(4, not_finite(cells))
+        .rule(13, too_many(state, cells.len()))
+}
+
+/// 13 and 14 of a run that is asked to be whole.
+fn ended(verdict: Verdict, state: State) -> Verdict {
+    verdict.rule(13, too_many(state, 0)).rule(14, too_few(state))
+}
+
+/// Every number that applies to closing.
+pub fn closed(state: State) -> Verdict {
+    ended(Verdict::default().rule(1, sizes(state.n, state.d, MOST_ROWS)), state)
 }
 
 fn picked(verdict: Verdict, case: &Pick) -> Verdict {
@@ -260,10 +301,20 @@ pub fn judge(case: &Case, short: bool) -> Verdict {
         Case::Gain(Gain { matrix, start, stop, split }) => measured(verdict, matrix, MOST_ROWS)
             .rule(8, outside(matrix.n, *start, *stop) || split_outside(*start, *stop, *split)),
         Case::Search(case) => searched(measured(verdict, &case.matrix, MOST_ROWS), &case.segment),
-        Case::Stored(case) => stored(verdict, case),
-        Case::Tree(case) | Case::Wild(Wild(case)) => grown(verdict, case),
+        Case::Stored(case) => stored(measured(verdict, &case.matrix, MOST_ROWS), case),
+        Case::Tree(case) | Case::Wild(Wild(case)) => {
+            grown(measured(verdict, &case.stored.matrix, MOST_ROWS), case)
+        }
         Case::Why(Why { tree, row }) => {
-            grown(verdict, tree).rule(8, row_outside(tree.stored.matrix.n, *row))
+            let matrix = &tree.stored.matrix;
+            grown(measured(verdict, matrix, MOST_ROWS), tree).rule(8, row_outside(matrix.n, *row))
+        }
+        Case::Feed(Feed { n, d, sums, .. }) => opened(verdict, *n, *d, sums.len()),
+        Case::Lot(Lot { state, sums, cells }) => fed(*state, cells, sums.len()),
+        Case::Close(Close { state }) => closed(*state),
+        Case::FedTree(case) => {
+            let state @ State { n, d, .. } = case.state();
+            ended(grown(opened(verdict, n, d, case.sums.len()), &case.tree), state)
         }
         Case::Order(case) => measured(verdict, &case.matrix, MOST_NEIGHBOUR_ROWS),
         Case::Knn(Knn { matrix, start, stop, split }) => {

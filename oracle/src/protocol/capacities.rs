@@ -5,6 +5,8 @@ pub struct Capacities {
     /// Bytes, LF included.
     pub(crate) line: usize,
     pub(crate) cells: usize,
+    /// Of a run, whose cells count together; the word `close` counts as one.
+    pub(crate) lots: usize,
     pub(crate) sums: usize,
     pub(crate) permutations: usize,
     pub(crate) forbidden: usize,
@@ -23,6 +25,7 @@ impl Capacities {
     pub const PAGE: Capacities = Capacities {
         line: 4_000_000,
         cells: 262_144,
+        lots: 1_024,
         sums: 262_144,
         permutations: 262_144,
         forbidden: 2_048,

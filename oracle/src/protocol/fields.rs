@@ -1,6 +1,6 @@
 //! The fields of a line, parted by single blanks, read one after another.
 
-use crate::{Capacities, Forbidden, Lists, Matrix, Segment, Shortest};
+use crate::{Capacities, Forbidden, Lists, Matrix, Segment, Shortest, Step};
 use std::mem::take;
 use std::slice::Split;
 
@@ -130,9 +130,36 @@ impl<'a> Fields<'a> {
         Some((self.number()?, self.number()?))
     }
 
+    /// CELLS or LOT
+    pub fn cells(&mut self) -> Option<Vec<f64>> {
+        self.list(self.capacities.cells, value)
+    }
+
     /// CELLS
     pub fn matrix(&mut self, (n, d): (usize, usize)) -> Option<Matrix> {
-        Some(Matrix { n, d, cells: self.list(self.capacities.cells, value)? })
+        Some(Matrix { n, d, cells: self.cells()? })
+    }
+
+    /// SUMS
+    pub fn sums(&mut self) -> Option<Vec<f64>> {
+        self.list(self.capacities.sums, value)
+    }
+
+    /// LOT, or the word `close`.
+    fn step(&mut self) -> Option<Step> {
+        match self.next_is(b"close") {
+            true => Some(Step::Close),
+            false => self.cells().map(Step::Lot),
+        }
+    }
+
+    /// K LOT..
+    pub fn steps(&mut self) -> Option<Vec<Step>> {
+        let count = self.number()?;
+        let steps: Vec<Step> = (0..count).map(|_| self.step()).collect::<Option<_>>()?;
+        let cells: usize = steps.iter().map(|step| step.cells().len()).sum();
+        self.passed |= steps.len() > self.capacities.lots || cells > self.capacities.cells;
+        Some(steps)
     }
 }
 

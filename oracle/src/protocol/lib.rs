@@ -4,6 +4,7 @@
 
 mod capacities;
 mod curves;
+mod feed;
 mod fields;
 mod lengths;
 mod mean;
@@ -18,6 +19,7 @@ mod why;
 
 pub use capacities::Capacities;
 pub use curves::{Curve, Perm};
+pub use feed::{Close, FedTree, Feed, Lot, State, Step, Taken};
 pub use fields::{value, Fields};
 pub use lengths::{Rel, F32};
 pub use mean::{Cand, Forbidden, Gain, Matrix, Search, Segment, Shortest};
@@ -77,6 +79,10 @@ kinds! {
     b"tree" Tree,
     b"wild" Wild,
     b"why" Why,
+    b"feed" Feed,
+    b"lot" Lot,
+    b"close" Close,
+    b"fedtree" FedTree,
     b"order" Order,
     b"knn" Knn,
     b"curve" Curve,

@@ -1,6 +1,7 @@
-//! Memory to lend, filled with a pattern that shows where it was written.
+//! Memory to lend, filled with a pattern that shows where it was written, or as a case finds it.
 
 use haspgarnet_changeforest::{owned, Matrix, Node, Segments, Settings};
+use std::ops::Range;
 
 /// None of the first three is one byte repeated, so that an entry that is shifted shows; the last is in no
 /// text.
@@ -36,6 +37,40 @@ impl<T: Copy + PartialEq> Lent<T> {
     /// Whether all entries past the first `told` are as they were.
     pub fn kept_past(&self, told: usize) -> bool {
         self.entries.iter().skip(told).all(|entry| *entry == self.pattern)
+    }
+}
+
+/// Sums as a case has them, of that length exactly.
+pub struct Found {
+    entries: Vec<f64>,
+    before: Vec<f64>,
+}
+
+impl Found {
+    pub fn of(sums: &[f64]) -> Found {
+        let entries: Vec<f64> = sums.iter().copied().chain([VALUE; BEHIND]).collect();
+        Found { before: entries.clone(), entries }
+    }
+
+    /// The slice for a call.
+    pub fn slice(&mut self) -> &mut [f64] {
+        let length = self.entries.len() - BEHIND;
+        &mut self.entries[..length]
+    }
+
+    /// All of them.
+    pub fn sums(&self) -> &[f64] {
+        &self.entries[..self.entries.len() - BEHIND]
+    }
+
+    /// Whether the last call left all entries but those told as they were, a NaN's bits too.
+    pub fn kept_but(&mut self, told: Range<usize>) -> bool {
+        let same = |place: usize| self.entries[place].to_bits() == self.before[place].to_bits();
+        let kept = (0..self.entries.len()).all(|place| told.contains(&place) || same(place));
+        for place in told.start..told.end.min(self.entries.len()) {
+            self.before[place] = self.entries[place];
+        }
+        kept
     }
 }
 

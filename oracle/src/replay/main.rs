@@ -4,6 +4,7 @@
 //! the library answers what it never should, that is told, and the next case is answered.
 
 mod curves;
+mod feed;
 mod lengths;
 mod lent;
 mod mean;
@@ -35,6 +36,10 @@ fn called(line: &Line) -> Outcome {
         Case::Tree(case) => case.call(line),
         Case::Wild(case) => case.call(line),
         Case::Why(case) => case.call(line),
+        Case::Feed(case) => case.call(line),
+        Case::Lot(case) => case.call(line),
+        Case::Close(case) => case.call(line),
+        Case::FedTree(case) => case.call(line),
         Case::Order(case) => case.call(line),
         Case::Knn(case) => case.call(line),
         Case::Curve(case) => case.call(line),

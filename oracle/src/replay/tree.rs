@@ -3,30 +3,25 @@ use crate::mean::{as_gain_leaves, matrix, sums_of};
 use crate::outcome::{agree, no_lower};
 use crate::segments::{known, lists, record, segments, settings, stored, Records};
 use crate::{Call, Outcome};
-use haspgarnet_changeforest::lent::TreeRoom;
+use haspgarnet_changeforest::lent::{FedRoom, TreeRoom};
 use haspgarnet_changeforest::{lent, owned, Counts, Node, Refusal, Settings};
 use protocol::{Capacities, Grown, Kind, Line, Record, Slice, Stored, Tree, Wild};
 
-struct Room {
-    sums: Lent<f64>,
+/// Room for a tree, but for its sums.
+pub struct Room {
     records: Records,
     nodes: Lent<Node>,
     cuts: Lent<usize>,
 }
 
 impl Room {
-    fn of(lengths: &[usize]) -> Room {
-        Room {
-            sums: values(lengths[0]),
-            records: Records::of(lengths[1]),
-            nodes: nodes(lengths[2]),
-            cuts: numbers(lengths[3]),
-        }
+    /// For records, nodes and cuts.
+    pub fn of([records, most_nodes, cuts]: [usize; 3]) -> Room {
+        Room { records: Records::of(records), nodes: nodes(most_nodes), cuts: numbers(cuts) }
     }
 
-    fn lend(&mut self) -> TreeRoom<'_> {
-        TreeRoom {
-            sums: self.sums.slice(),
+    pub fn lend(&mut self) -> FedRoom<'_> {
+        FedRoom {
             rows: self.records.rows.slice(),
             gains: self.records.gains.slice(),
             nodes: self.nodes.slice(),
@@ -34,14 +29,19 @@ impl Room {
         }
     }
 
-    fn kept_past(&self, sums: usize, records: usize, nodes: usize, cuts: usize) -> bool {
-        self.sums.kept_past(sums)
-            && self.records.kept_past(records)
-            && self.nodes.kept_past(nodes)
-            && self.cuts.kept_past(cuts)
+    fn lend_with<'a>(&'a mut self, sums: &'a mut Lent<f64>) -> TreeRoom<'a> {
+        let FedRoom { rows, gains, nodes, cuts } = self.lend();
+        TreeRoom { sums: sums.slice(), rows, gains, nodes, cuts }
     }
 
-    fn grown(&self, counts: Counts) -> Grown {
+    /// Whether all entries past those told are as they were, all of them where none is told.
+    pub fn kept_past(&self, told: Option<Counts>) -> bool {
+        let told = told.map(|told| [told.records, told.nodes, told.cuts]);
+        let [records, nodes, cuts] = told.unwrap_or_default();
+        self.records.kept_past(records) && self.nodes.kept_past(nodes) && self.cuts.kept_past(cuts)
+    }
+
+    pub fn grown(&self, counts: Counts) -> Grown {
         Grown {
             stored: counts.stored,
             nodes: self.nodes.told(counts.nodes).iter().map(node).collect(),
@@ -61,13 +61,26 @@ fn node(node: &Node) -> protocol::Node {
     }
 }
 
-fn owned_grown(tree: haspgarnet_changeforest::Tree) -> Grown {
-    Grown {
+/// What a call with room of its own answers.
+pub fn owned_answer(tree: haspgarnet_changeforest::Tree) -> String {
+    Wild::answer(&Grown {
         stored: tree.stored,
         nodes: tree.nodes.iter().map(node).collect(),
         cuts: tree.cuts,
         records: tree.records.iter().map(record).collect(),
-    }
+    })
+}
+
+/// What a lent call answers.
+pub fn answer(grown: &Result<Grown, Refusal>) -> Result<String, Refusal> {
+    grown.as_ref().map(Wild::answer).map_err(|why| *why)
+}
+
+/// Whether it is told of every record and every choice where it comes from.
+pub fn all_known(grown: &Result<Grown, Refusal>) -> bool {
+    grown.as_ref().ok().is_none_or(|Grown { nodes, records, .. }| {
+        known(records.iter().chain(nodes.iter().filter_map(|node| node.choice.as_ref())))
+    })
 }
 
 /// Whether the call that stores alone answers what the tree begins with. It takes no threshold, and has
@@ -91,38 +104,33 @@ pub fn cutting(case: &Tree) -> Settings<'_> {
 
 /// The tree of a case, grown by the lent call in room of its own, as long as is asked.
 pub fn grown_apart(case: &Tree) -> Result<Grown, Refusal> {
-    let asked: Vec<usize> = case.lends(&Capacities::WIDE).iter().map(Slice::asked).collect();
-    let mut room = Room::of(&asked);
+    let slices = case.lends(&Capacities::WIDE);
+    let [sums, records, nodes, cuts] = [0, 1, 2, 3].map(|place| Slice::asked(&slices[place]));
+    let (mut sums, mut room) = (values(sums), Room::of([records, nodes, cuts]));
     let (readings, settings) = (matrix(&case.stored.matrix), cutting(case));
-    let counts = lent::tree(readings, &settings, lists(&case.stored), room.lend());
+    let lending = room.lend_with(&mut sums);
+    let counts = lent::tree(readings, &settings, lists(&case.stored), lending);
     counts.map(|counts| room.grown(counts))
 }
 
 /// Grows the tree of a case, and tells it in the words of its kind.
 fn grown(case: &Tree, line: &Line, words: fn(&Grown) -> String) -> Outcome {
     let (readings, settings) = (matrix(&case.stored.matrix), cutting(case));
-    let mut room = Room::of(&[1, 2, 3, 4].map(|number| line.lent(number)));
-    let counts = lent::tree(readings, &settings, lists(&case.stored), room.lend());
-    let kept = match counts {
-        Err(_) => room.kept_past(0, 0, 0, 0),
-        Ok(told) => {
-            let sums = sums_of(&readings);
-            as_gain_leaves(readings, room.sums.told(sums))
-                && room.kept_past(sums, told.records, told.nodes, told.cuts)
-        }
-    };
+    let (mut sums, mut room) =
+        (values(line.lent(1)), Room::of([2, 3, 4].map(|number| line.lent(number))));
+    let lending = room.lend_with(&mut sums);
+    let counts = lent::tree(readings, &settings, lists(&case.stored), lending);
+    let told = counts.map_or(0, |_| sums_of(&readings));
+    let left = counts.is_err() || as_gain_leaves(readings, sums.told(told));
+    let kept = left && sums.kept_past(told) && room.kept_past(counts.ok());
     let grown = counts.map(|counts| room.grown(counts));
-    let known = grown.as_ref().ok().is_none_or(|Grown { nodes, records, .. }| {
-        known(records.iter().chain(nodes.iter().filter_map(|node| node.choice.as_ref())))
-    });
     let agrees = segments(&case.stored).is_none_or(|segments| {
-        let lent = grown.as_ref().map(Wild::answer).map_err(|why| *why);
         let owned = owned::tree(readings, &settings, segments);
-        agree(lent, owned.map(|tree| Wild::answer(&owned_grown(tree))))
+        agree(answer(&grown), owned.map(owned_answer))
     });
     let (stored, stored_kept) = stored(&case.stored, line);
     Outcome {
-        kept: kept && known && stored_kept,
+        kept: kept && all_known(&grown) && stored_kept,
         agrees: agrees && begins_with(&grown, &stored),
         told: grown.map(|grown| words(&grown)),
     }

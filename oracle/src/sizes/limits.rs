@@ -2,7 +2,7 @@
 
 use crate::seen::Seen;
 use crate::Counts;
-use protocol::{Case, Grown, Knn, Lists, Order, Perm};
+use protocol::{Case, Close, Feed, Grown, Knn, Lists, Lot, Order, Perm, State};
 
 impl Counts {
     /// Of the admitted cases at a limit, how many have each size.
@@ -64,6 +64,22 @@ impl Counts {
             Case::Tree(_) | Case::Wild(_) => {
                 let nodes = grown.map_or(0, |grown| grown.nodes.len());
                 table.count("", "tree, wild: 8,189 nodes; 8,191", [nodes == 8_189, nodes == 8_191]);
+            }
+            Case::FedTree(_) => {
+                let nodes = grown.map_or(0, |grown| grown.nodes.len());
+                table.count("", "fedtree: 8,189 nodes; 8,191", [nodes == 8_189, nodes == 8_191]);
+            }
+            Case::Feed(Feed { n, d, steps, .. }) => {
+                let full = [(4_096, 28), (1_830, 64), (4_096, 64)].map(|size| (*n, *d) == size);
+                let text = "4,096 rows of 28 columns; 1,830 of 64; 4,096 of 64";
+                table.count("", &label(text), full);
+                table.count("", &label("1,024 lots"), [steps.len() == 1_024]);
+            }
+            Case::Lot(Lot { state: State { n, d, .. }, .. })
+            | Case::Close(Close { state: State { n, d, .. } }) => {
+                let full = [(4_096, 57), (3_674, 64), (4_096, 64)].map(|size| (*n, *d) == size);
+                let text = "4,096 rows of 57 columns; 3,674 of 64; 4,096 of 64";
+                table.count("", &label(text), full);
             }
             _ => (),
         }

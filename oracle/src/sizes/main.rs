@@ -5,7 +5,9 @@
 // Every number that applies to a case, not the lowest alone, is what the oracle's rules say.
 mod closed;
 mod draws;
+mod later;
 mod limits;
+mod lots;
 mod origins;
 mod rows;
 #[path = "../oracle/rules.rs"]
@@ -28,21 +30,25 @@ enum Part {
     Closed,
     Draws,
     Rows,
+    Lots,
+    Later,
     Origins,
 }
 
 const ALL: &str = "";
 
 /// Seeds from the first to the last, how many cases of each, the kinds.
-const RUNS: [(Part, u64, u64, u64, &str); 21] = [
+const RUNS: [(Part, u64, u64, u64, &str); 28] = [
     (Part::Limits, 421, 424, 1_500, "limit edge"),
     (Part::Limits, 721, 724, 1_500, "closed limit edge"),
     (Part::Limits, 821, 822, 1_500, "wild stored limit edge"),
     (Part::Limits, 921, 922, 1_500, "why limit edge"),
+    (Part::Limits, 1_141, 1_142, 1_500, "feed lot close fedtree limit edge"),
     (Part::Limits, 431, 434, 100, "wide"),
     (Part::Limits, 731, 734, 100, "closed wide"),
     (Part::Limits, 831, 832, 100, "wild stored wide"),
     (Part::Limits, 931, 932, 100, "why wide"),
+    (Part::Limits, 1_151, 1_154, 100, "feed lot fedtree wide"),
     (Part::Closed, 701, 701, 101_000, "closed cand"),
     (Part::Closed, 702, 702, 101_000, "closed search"),
     (Part::Closed, 704, 704, 101_000, "closed tree"),
@@ -54,12 +60,19 @@ const RUNS: [(Part, u64, u64, u64, &str); 21] = [
     (Part::Draws, 708, 708, 101_000, "closed wild"),
     (Part::Rows, 901, 902, 100_000, "why"),
     (Part::Rows, 709, 709, 101_000, "closed why"),
+    (Part::Lots, 1_101, 1_102, 100_000, "feed"),
+    (Part::Lots, 1_111, 1_112, 100_000, "lot"),
+    (Part::Lots, 1_121, 1_121, 101_000, "close"),
+    (Part::Later, 1_131, 1_132, 100_000, "fedtree"),
+    (Part::Later, 710, 710, 101_000, "closed fedtree"),
     (Part::Origins, 101, 110, 100_000, ALL),
     (Part::Origins, 1_001, 1_001, 101_000, "tree"),
 ];
 
 const DRAWS: [&str; 3] = ["wild", "stored", "closed wild"];
 const ROWS: [&str; 2] = ["why", "closed why"];
+const LOTS: [&str; 2] = ["feed", "lot"];
+const LATER: [&str; 2] = ["fedtree", "closed fedtree"];
 
 /// The runs whose origins are counted.
 const ORIGINS: [&str; 8] =
@@ -75,11 +88,15 @@ struct Counts {
     refused_draws: Table,
     rows: Table,
     refused_rows: Table,
+    lots: Table,
+    later: Table,
+    refused_later: Table,
     origins: Table,
     sentences: Table,
     together: Together,
     /// The rows that the two cases before asked about, and of how many.
     asked: [(usize, usize); 2],
+    cuttings: lots::Cuttings,
 }
 
 impl Counts {
@@ -93,12 +110,17 @@ impl Counts {
                 self.sentences.add("", &label, [cases.len() as u64, fewest]);
             }
         }
+        let label = "feed: ways to cut up to 7 cells up, of each n and d: seen; there are";
+        self.sentences.add("", label, lots::ways(&self.cuttings));
         self.limits.print("At the limits");
         self.lengths.print("Closed");
         self.draws.print("Draws");
         self.refused_draws.print("");
         self.rows.print("Rows");
         self.refused_rows.print("");
+        self.lots.print("Lots");
+        self.later.print("Later sheets");
+        self.refused_later.print("");
         self.origins.print("Origins");
         self.sentences.rows.sort();
         self.sentences.print("Sentences");
@@ -145,16 +167,20 @@ fn main() -> Result<()> {
         exit(2)
     };
     let mut counts = Counts {
-        limits: Table::of(&["gain", "search", "stored", "tree", "wild", "why"]),
+        limits: Table::of(&["gain", "search", "stored", "tree", "wild", "why", "fedtree"]),
         lengths: Table::of(&["cand", "search", "pick", "guesses", "perm"]),
         draws: Table::of(&DRAWS),
         refused_draws: Table::of(&DRAWS),
         rows: Table::of(&ROWS),
         refused_rows: Table::of(&ROWS),
+        lots: Table::of(&LOTS),
+        later: Table::of(&LATER),
+        refused_later: Table::of(&LATER),
         origins: Table::of(&ORIGINS),
         sentences: Table::of(&SENTENCES),
         together: Together::new(),
         asked: [(0, 0); 2],
+        cuttings: lots::Cuttings::new(),
     };
     for (part, first, last, count, kinds) in RUNS {
         for seed in first..=last {
@@ -164,6 +190,8 @@ fn main() -> Result<()> {
                     Part::Closed => counts.closed(seen),
                     Part::Draws => counts.draws(seen, kinds),
                     Part::Rows => counts.rows(seen, kinds),
+                    Part::Lots => counts.lots(seen, kinds),
+                    Part::Later => counts.later(seen, kinds),
                     Part::Origins => (),
                 }
                 if ORIGINS.contains(&kinds) {

@@ -2,8 +2,8 @@
 
 use crate::rules::{judge, Verdict};
 use protocol::{
-    value, Cand, Capacities, Case, Gain, Grown, Guesses, Line, Matrix, Node, Origin, Pick, Record,
-    Search, Segment, Stored, Tree, Why, Wild,
+    value, Cand, Capacities, Case, FedTree, Gain, Grown, Guesses, Line, Matrix, Node, Origin, Pick,
+    Record, Search, Segment, Stored, Tree, Why, Wild,
 };
 
 /// A case, every number that applies to it, and its answer.
@@ -33,6 +33,10 @@ impl Seen {
             Case::Tree(_) => "tree",
             Case::Wild(_) => "wild",
             Case::Why(_) => "why",
+            Case::Feed(_) => "feed",
+            Case::Lot(_) => "lot",
+            Case::Close(_) => "close",
+            Case::FedTree(_) => "fedtree",
             Case::Order(_) => "order",
             Case::Knn(_) => "knn",
             Case::Pick(_) => "pick",
@@ -43,7 +47,7 @@ impl Seen {
     }
 
     pub fn numbers(&self) -> Vec<usize> {
-        (1..=12).filter(|number| self.verdict.says(*number)).collect()
+        (1..=14).filter(|number| self.verdict.says(*number)).collect()
     }
 
     pub fn alone(&self, number: usize) -> bool {
@@ -55,7 +59,8 @@ impl Seen {
             Case::Stored(stored)
             | Case::Tree(Tree { stored, .. })
             | Case::Wild(Wild(Tree { stored, .. }))
-            | Case::Why(Why { tree: Tree { stored, .. }, .. }) => Some(stored),
+            | Case::Why(Why { tree: Tree { stored, .. }, .. })
+            | Case::FedTree(FedTree { tree: Tree { stored, .. }, .. }) => Some(stored),
             _ => None,
         }
     }
@@ -90,7 +95,7 @@ impl Seen {
         let mut grown = Grown { stored: 0, nodes: vec![], cuts: vec![], records: vec![] };
         match &self.line.case {
             Case::Stored(_) => (),
-            Case::Tree(_) | Case::Wild(_) => {
+            Case::Tree(_) | Case::Wild(_) | Case::FedTree(_) => {
                 words.find(|word| *word == "nodes");
                 grown.nodes = listed(&mut words, node);
                 words.next();
