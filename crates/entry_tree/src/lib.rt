@@ -1,56 +1,21 @@
 // The tree of a run: its node list, its records and its sheet; from its matrix, or from the sums that a fed run has left.
 // Entry points: whatever is passed in, each ends with an answer or with the number of a refusal, which has changed no lent memory. None has a `requires`.
-use binary_segmentation::tree;
 use binary_segmentation::tree::Counts;
 use control::Settings;
 use feed::State;
 use node::Node;
-use prepared::Prepared;
 use rows::Position;
 use verdict::Asked;
 ghost use Rattle.control.specs.Settings.{settingsOf};
 ghost use Rattle.feed.specs.States.{stateOf};
-ghost use Rattle.entry_tree.specs.Growth.{Readied, GrownFrom};
 ghost use Rattle.entry_tree.specs.Left.{TreeLeft, FedLeft, PointsLeft};
+
+mod grow;
 
 // How many nodes, records and cuts were written, and how many of the records are the stored segments'; or the refusal's number.
 pub enum Grown {
     Counted(Counts, usize),
     Refused(u32),
-}
-
-// Grows the tree once it is prepared, over the sums that stand: its nodes in preorder, its records behind the stored segments', its cuts from left to right.
-fn grow(
-    prepared: Prepared,
-    sums: &[f64],
-    forbidden: &[usize],
-    asked: Asked,
-    n: usize,
-    rows: &mut [usize],
-    gains: &mut [f64],
-    nodes: &mut [Node],
-    cuts: &mut [usize],
-) -> Grown
-    requires { ⌜ Readied prepared (now sums) (now forbidden) asked n (record { rows = now rows; gains = now gains; nodes = now nodes; cuts = now cuts }) ⌝ }
-    ensures { λ r. ⌜ GrownFrom prepared (now (sums .entry)) (now (forbidden .entry)) asked n r (record { rows = now (rows .entry); gains = now (gains .entry); nodes = now (nodes .entry); cuts = now (cuts .entry) }) (record { rows = now (rows .exit); gains = now (gains .exit); nodes = now (nodes .exit); cuts = now (cuts .exit) }) ⌝ }
-{
-    match prepared {
-        Prepared::Refused(no) => Grown::Refused(no),
-        Prepared::Stored(len, count) => {
-            let counts = tree::binary_segmentation(
-                &sums[..len],
-                forbidden,
-                asked,
-                n,
-                rows,
-                gains,
-                nodes,
-                cuts,
-                count,
-            );
-            Grown::Counted(counts, count)
-        }
-    }
 }
 
 // The tree of the run: its nodes in preorder into `nodes`, its cuts from left to right into `cuts`; start, stop, best split and the origin's kind and number of
@@ -88,7 +53,7 @@ pub fn binary_segmentation(
         cuts.len(),
     );
     let asked = Asked { d, settings };
-    grow(
+    grow::grow(
         prepared,
         sums,
         forbidden,
@@ -134,7 +99,7 @@ pub fn fed_tree(
         d: state.d,
         settings,
     };
-    grow(
+    grow::grow(
         prepared,
         sums,
         forbidden,

@@ -42,9 +42,9 @@ use Rattle.prepared.proofs.prepare.Met as prepare-thm
 use Rattle.entry_tree.specs.Left.{Slices}
 use Rattle.entry_tree.proofs.Whole.{tree-readied, tree-left}
 use Rattle.entry_tree.proofs.Deals.{preparing, growing, answering}
-use Rattle.entry_tree.proofs.grow.Symbol as grow-def
-use Rattle.entry_tree.proofs.grow.Symbol.{name as #grow}
-use Rattle.entry_tree.proofs.grow.Met as grow-thm
+use Rattle.entry_tree.proofs.grow.grow.Symbol as grow-def
+use Rattle.entry_tree.proofs.grow.grow.Symbol.{name as #grow}
+use Rattle.entry_tree.proofs.grow.grow.Met as grow-thm
 use Rattle.entry_tree.proofs.binary_segmentation.Key.{name as #binary-segmentation}
 use Rattle.entry_tree.proofs.binary_segmentation as f
 use Rattle.entry_tree.proofs.binary_segmentation.Statement as stated
@@ -133,4 +133,4 @@ binary-segmentation-spec 𝓤 H 𝓜 𝓖 𝓡 =
     entered 𝓤 H (tripleOf 𝓤 H (𝓖 .A) f.signature (f.spec 𝓤 H (𝓖 .A) (𝓜 .mem) (𝓡 .run))) (tables 𝓤 H 𝓜 𝓡 code.env .C) (tables 𝓤 H 𝓜 𝓡 code.env .Λ) #binary-segmentation code.function (code.unfolded 𝓤 H 𝓜 𝓡)
     (binary-segmentation-meets 𝓤 H (𝓖 .A) W 𝓣
     (λ xs fr. unasked 𝓤 H (𝓖 .A) W preparing xs fr (cited 𝓤 H _ 𝓜 𝓡 code.env #prepare prepare-def.routine code.calls-prepared·prepare (prepare-thm.met 𝓤 H 𝓜 𝓖 𝓡) (anew preparing xs fr)))
-    (λ xs fr. cited 𝓤 H _ 𝓜 𝓡 code.env #grow grow-def.routine code.calls-entry-tree·grow (grow-thm.met 𝓤 H 𝓜 𝓖 𝓡) (anew growing xs fr)) (𝓜 .mem) (𝓡 .run))
+    (λ xs fr. cited 𝓤 H _ 𝓜 𝓡 code.env #grow grow-def.routine code.calls-entry-tree·grow·grow (grow-thm.met 𝓤 H 𝓜 𝓖 𝓡) (anew growing xs fr)) (𝓜 .mem) (𝓡 .run))

@@ -36,11 +36,11 @@ use Rattle.prepared.specs.declared.Prepared.{Prepared}
 use Rattle.prepared.specs.declared.Prepared.the-variants.{Stored, Refused as Unprepared}
 use Rattle.entry_tree.specs.declared.Grown.the-variants.{Counted, Refused}
 use Rattle.entry_tree.proofs.Deals.{grown, prepared, stored-fits, refused-fits, counted-fits, growing}
-use Rattle.entry_tree.proofs.grow.Key.{name as #grow}
-use Rattle.entry_tree.proofs.grow as f
-use Rattle.entry_tree.proofs.grow.Statement as stated
-use Rattle.entry_tree.proofs.grow.Code as code
-use Rattle.entry_tree.proofs.grow.Code.Mir as pieces
+use Rattle.entry_tree.proofs.grow.grow.Key.{name as #grow}
+use Rattle.entry_tree.proofs.grow.grow as f
+use Rattle.entry_tree.proofs.grow.grow.Statement as stated
+use Rattle.entry_tree.proofs.grow.grow.Code as code
+use Rattle.entry_tree.proofs.grow.grow.Code.Mir as pieces
 
 module _ {M : Type 1} (𝓤 : URA M) (H : Heap 𝓤) (A : Atoms 𝓤) (W : Given 𝓤 H A) (𝓣 : Tables 𝓤 H) (known-segment : Known 𝓤 H A W segmenting (𝓣 .C #segment))
     (sums : Shared Float) (forbidden : Shared ℕ) (s : Asked) (n : ℕ) (rows : Unique ℕ) (gains : Unique Float) (nodes : Unique Node) (cuts : Unique ℕ) where
