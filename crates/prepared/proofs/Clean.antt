@@ -7,51 +7,40 @@ use borrow.Author.Tests.{ltb-false, le-ltb}
 use lib.Dec.{ltb}
 use lib.ListN.{drop}
 use Rattle.scope.specs.Asked.{Matrix, Shortest, Source, Settings}
-use Rattle.scope.specs.Refusals.{mostRows, firstOf, wrongLayers}
-use Rattle.scope.specs.Draws.{mostStored, anyPast}
+use Rattle.scope.specs.Refusals.{mostRows, mostLength, firstOf, outside, wrongLayers}
+use Rattle.scope.specs.Draws.{mostStored, sourceTests, anyPast}
 use Rattle.scope.specs.Tree.{mostNodes}
 use Rattle.scope.specs.Calls.{sumsRoom, StoredAsked, storedRefusal, Room, runTests, roomTests, TreeAsked, treeTests, treeRefusal}
 use Rattle.scope.specs.Feed.{State, fedRunTests, fedTests, fedRefusal}
 use Rattle.change_in_mean.proofs.Room.{SumsClean, sums-clean}
 use Rattle.scope.proofs.Candidates.{not-outside}
-use Rattle.control.proofs.Clean.{passed, both-pass}
-use Rattle.control.proofs.Sizes.{Sizes, sizes, Matrix as Shape, matrix}
+use Rattle.control.proofs.Clean.{Passed, passed, both-pass}
+use Rattle.control.proofs.Sizes.{Sizes, sizes, matrix}
 
--- no number up to 6 applies to the run
-pub record RunClean (x : Matrix) (s : Settings) : Type 0 where
-  pub shape : Shape 4096 (x .cells) (x .n) (x .d)
+-- no number up to 6 applies to a run of n rows of d columns
+pub record RunClean (n d : ℕ) (s : Settings) : Type 0 where
+  pub shape : Sizes mostRows n d
   pub least : (1 ≤ s .shortest .m) × (s .shortest .m ≤ 4096)
   pub layers : wrongLayers (s .source .layers) ≡ false
   pub few : s .source .W ≤ 4096
 
-pub run-clean : (x : Matrix) (s : Settings) → firstOf (runTests x s) ≡ 0 → RunClean x s
+clean-of : {n d : ℕ} (s : Settings) → Sizes mostRows n d → outside mostLength (s .shortest .m) ≡ false → Passed (sourceTests (s .source)) → RunClean n d s
+clean-of s shape length source = record {
+  shape = shape;
+  least = not-outside mostLength (s .shortest .m) length;
+  layers = source .1 .0;
+  few = ltb-false 4096 (s .source .W) (source .1 .1 .1 .0);
+}
+
+-- from its matrix, or fed
+pub run-clean : (x : Matrix) (s : Settings) → firstOf (runTests x s) ≡ 0 → RunClean (x .n) (x .d) s
 run-clean x s e =
     let p = passed (runTests x s) tt e in
-    let source = p .1 .1 .1 .1 .1 in
-    record {
-      shape = matrix 4096 (x .cells) (x .n) (x .d) (p .0);
-      least = not-outside 4096 (s .shortest .m) (p .1 .0);
-      layers = source .1 .0;
-      few = ltb-false 4096 (s .source .W) (source .1 .1 .1 .0);
-    }
+    let w = matrix mostRows (x .cells) (x .n) (x .d) (p .0) in
+    clean-of s (record { rows = w .rows; columns = w .columns }) (p .1 .0) (p .1 .1 .1 .1 .1)
 
--- nor to a fed one
-pub record FedRunClean (st : State) (s : Settings) : Type 0 where
-  pub shape : Sizes 4096 (st .n) (st .d)
-  pub least : (1 ≤ s .shortest .m) × (s .shortest .m ≤ 4096)
-  pub layers : wrongLayers (s .source .layers) ≡ false
-  pub few : s .source .W ≤ 4096
-
-pub fed-run-clean : (st : State) (s : Settings) → firstOf (fedRunTests st s) ≡ 0 → FedRunClean st s
-fed-run-clean st s e =
-    let p = passed (fedRunTests st s) tt e in
-    let source = p .1 .1 .1 .1 in
-    record {
-      shape = sizes 4096 (st .n) (st .d) (p .0);
-      least = not-outside 4096 (s .shortest .m) (p .1 .0);
-      layers = source .1 .0;
-      few = ltb-false 4096 (s .source .W) (source .1 .1 .1 .0);
-    }
+pub fed-run-clean : (st : State) (s : Settings) → firstOf (fedRunTests st s) ≡ 0 → RunClean (st .n) (st .d) s
+fed-run-clean st s e = let p = passed (fedRunTests st s) tt e in clean-of s (sizes mostRows (st .n) (st .d) (p .0)) (p .1 .0) (p .1 .1 .1 .1)
 
 -- its stored segments, in room for so many sums and records
 abbrev pub segmentsAsked : Matrix → Settings → ℕ → ℕ → StoredAsked
@@ -101,7 +90,7 @@ roomy n d short source room e =
 
 -- a tree can be grown: sizes and room
 pub record Growable (n d : ℕ) (short : Shortest) (source : Source) (room : Room) : Type 0 where
-  pub shape : Sizes 4096 n d
+  pub shape : Sizes mostRows n d
   pub lengths : (1 ≤ short .m) × (short .m ≤ 4096)
   pub fits : Roomy n d short source room
 
@@ -120,12 +109,12 @@ tree-clean a e =
     let w = run-clean (a .matrix) s run in
     record {
       run = run-fits (a .matrix) s (a .room .sums) (a .room .records) run (le-ltb (a .room .sums) (sumsRoom (a .matrix)) (fit .sums-fit)) (omega (arith, fit .records-fit)) (passed (drop 13 (treeTests a)) tt last .0);
-      growable = record { shape = record { rows = w .shape .rows; columns = w .shape .columns }; lengths = w .least; fits = fit };
+      growable = record { shape = w .shape; lengths = w .least; fits = fit };
     }
 
 -- ---- a call for the later sheet
 pub record FedClean (st : State) (s : Settings) (room : Room) : Type 0 where
-  pub run : FedRunClean st s
+  pub run : RunClean (st .n) (st .d) s
   pub growable : Growable (st .n) (st .d) (s .shortest) (s .source) room
   pub within : anyPast (st .n) (s .source .draws) ≡ false
 

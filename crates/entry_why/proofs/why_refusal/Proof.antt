@@ -37,7 +37,7 @@ abbrev total : tie.Start → ℕ
 total s = mostStored (settings s .source)
 
 -- the run is not refused
-clean : (c : tie.Else1) → RunClean (matrix (c .before .before .before .before .before .before)) (settings (c .before .before .before .before .before .before))
+clean : (c : tie.Else1) → RunClean (c .before .before .before .before .before .before .args .n) (c .before .before .before .before .before .before .args .d) (settings (c .before .before .before .before .before .before))
 clean c = run-clean (matrix (c .before .before .before .before .before .before)) (settings (c .before .before .before .before .before .before)) (sym (c .before .run-refusal .ensures) ∙ c .if1 .left)
 
 left9 : (c : tie.Else1) → firstOf (from (c .before .before .before .before .before .before) 9) ≡ firstOf (from (c .before .before .before .before .before .before) 0)

@@ -28,7 +28,7 @@ abbrev from : tie.Start → ℕ → List Test
 from s k = drop k (treeTests (asked s))
 
 -- the run is not refused
-clean : (c : tie.Else1) → RunClean (asked (c .before .before .before .before .before .before) .matrix) (asked (c .before .before .before .before .before .before) .settings)
+clean : (c : tie.Else1) → RunClean (c .before .before .before .before .before .before .args .n) (c .before .before .before .before .before .before .args .d) (asked (c .before .before .before .before .before .before) .settings)
 clean c = let a = asked (c .before .before .before .before .before .before) in run-clean (a .matrix) (a .settings) (sym (c .before .run-refusal .ensures) ∙ c .if1 .left)
 
 left9 : (c : tie.Else1) → firstOf (from (c .before .before .before .before .before .before) 9) ≡ firstOf (from (c .before .before .before .before .before .before) 0)

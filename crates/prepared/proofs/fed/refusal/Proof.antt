@@ -11,7 +11,7 @@ use Rattle.scope.specs.Feed.{fedTests, fedRefusal}
 use Rattle.control.specs.Settings.{settingsOf}
 use Rattle.feed.specs.States.{stateOf}
 use Rattle.control.proofs.Clean.{answers, stops, passes}
-use Rattle.prepared.proofs.Clean.{FedRunClean, fed-run-clean}
+use Rattle.prepared.proofs.Clean.{RunClean, fed-run-clean}
 use borrow.Author.Needs.{needs}
 use Rattle.prepared.proofs.fed.refusal.Statement.{statement}
 use Rattle.prepared.proofs.fed.refusal.Tie as tie
@@ -24,7 +24,7 @@ abbrev from : tie.Start → ℕ → List Test
 from s k = let a = s .args in drop k (fedTests (stateOf (a .state)) (settings s) (record { sums = a .sums; records = a .records; nodes = a .nodes; cuts = a .cuts }))
 
 -- the run is not refused
-clean : (c : tie.Else1) → FedRunClean (stateOf (c .before .before .before .before .before .args .state)) (settings (c .before .before .before .before .before))
+clean : (c : tie.Else1) → RunClean (c .before .before .before .before .before .args .state .n) (c .before .before .before .before .before .args .state .d) (settings (c .before .before .before .before .before))
 clean c = fed-run-clean (stateOf (c .before .before .before .before .before .args .state)) (settings (c .before .before .before .before .before)) (sym (c .before .run-refusal .ensures) ∙ c .if1 .left)
 
 left8 : (c : tie.Else1) → firstOf (from (c .before .before .before .before .before) 8) ≡ firstOf (from (c .before .before .before .before .before) 0)
