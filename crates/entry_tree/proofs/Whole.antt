@@ -11,8 +11,8 @@ use Rattle.scope.specs.Asked.{Matrix, Source}
 use Rattle.scope.specs.Asked as asked
 use Rattle.scope.specs.Refusals.{unless, toldUnless}
 use Rattle.scope.specs.Tree.{Run, storedRecords, grown, recordsOf, treeOf, nodes, sheet}
-use Rattle.scope.specs.Calls.{sumsOf, sumsRoom, TreeAsked, runOn, runOf, countsOf, runFollows, treeRefusal, treeCall}
-use Rattle.scope.specs.Feed.{State, sumsIn, fedRun, fedRefusal, fedCall}
+use Rattle.scope.specs.Calls.{sumsOf, sumsRoom, TreeAsked, runOn, countsOf, runFollows, treeRefusal, treeCall}
+use Rattle.scope.specs.Feed.{State, sumsIn, fedRefusal, fedCall}
 use Rattle.scope.proofs.Never.{never}
 use Rattle.demand.proofs.Demand.{demand}
 use Rattle.control.specs.Settings.{settingsOf}

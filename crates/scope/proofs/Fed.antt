@@ -1,24 +1,24 @@
 -- While a deck feeds, from an opening that is not refused and by whatever steps: the sums are those of the cells taken, and the later sheet is the whole call's. Assumes nothing.
 use mathlib.Core.Path.{_≡_, refl, sym, _∙_, ap, subst}
-use mathlib.Core.Bool.{Bool, true, false, not, _||_}
+use mathlib.Core.Bool.{true, false}
 use mathlib.Core.List.{List, [], _∷_, _++_, append-nil, append-assoc}
-use Prim.Native.Nat.{ℕ, zero, suc, _+_, _*_, _≤_, _<_}
-use native.Mathlib.Nat.{add-zero, add-mul, add-assoc}
+use Prim.Native.Nat.{ℕ, zero, suc, _+_, _*_, _≤_}
+use native.Mathlib.Nat.{add-mul}
 use native.Mathlib.Omega.{arith}
 use borrow.Author.Tests.{ltb-false, le-ltb, eq-eqb, not-false}
-use lib.Dec.{ltb, eqb}
+use lib.Dec.{ltb}
 use lib.Ieee.{Float}
-use lib.ListN.{length, take, drop, length-append, length-drop}
-use lib.Seq.{take-at, drop-append-add, drop-drop}
-use Rattle.scope.specs.Floats.{+0, isFinite}
+use lib.ListN.{length, length-append, length-drop}
+use lib.Seq.{take-at}
+use Rattle.scope.specs.Floats.{isFinite}
 use Rattle.scope.specs.Lists.{every, holding}
 use Rattle.scope.specs.Asked.{Matrix, Settings}
-use Rattle.scope.specs.Refusals.{Test, test, firstOf, Answer, refused, given, unless, toldUnless, leftUnless, outside, mostRows, wrongSizes, wrongMatrix, no2, no3, no5, no7}
+use Rattle.scope.specs.Refusals.{Test, test, firstOf, unless, toldUnless, leftUnless, outside, mostRows, wrongSizes, wrongMatrix, no2, no3, no5, no7}
 use Rattle.scope.specs.Sums.{flatSums, prefixSums}
 use Rattle.scope.specs.Draws.{sourceTests, no8-draws}
 use Rattle.scope.specs.Tree.{Run, treeOf, recordsOf, nodes, sheet}
 use Rattle.scope.specs.Calls.{sumsOf, Room, roomTests, runOn, countsOf, runOf, runFollows, treeRefusal, treeCall, countedRefusal, countedCall}
-use Rattle.scope.specs.Feed.{State, opened, OpenAsked, openTests, openRefusal, openCall, fedSums, FeedAsked, feedTests, feedRefusal, feedCall, closeTests, closeAnswer, FedAsked, fedRefusal, fedRoom, fedRun, fedCall, fedCountedRefusal, fedCountedCall}
+use Rattle.scope.specs.Feed.{OpenAsked, openTests, openRefusal, openCall, fedSums, FeedAsked, feedTests, feedRefusal, feedCall, closeTests, closeAnswer, fedRefusal, fedRoom, fedRun, fedCall, fedCountedRefusal, fedCountedCall}
 use Rattle.scope.specs.Fed.{Step, lot, closing, Handed, stateOr, takenBy, handedOn, after, openedIn, laterOf, wholeOf, SameSheet, AsWhole, SoFar, WhileFed}
 use Rattle.scope.proofs.Candidates.{or-false, not-outside}
 use Rattle.scope.proofs.Every.{every-append}

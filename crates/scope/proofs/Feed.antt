@@ -15,7 +15,7 @@ use Rattle.scope.specs.Lists.{at}
 use Rattle.scope.specs.Sums.{plus, flatSums}
 use Rattle.scope.specs.Feed.{fedSums}
 use Rattle.scope.specs.Fed.{Adds}
-use Rattle.scope.proofs.Sums.{length-flat, sums-step}
+use Rattle.scope.proofs.Sums.{sums-step}
 
 module _ (lot : List Float) (d c : ℕ) (before : List Float) where
   pub length-fed : (k : ℕ) → length (fedSums lot d c before k) ≡ length before

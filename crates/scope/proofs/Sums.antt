@@ -1,6 +1,6 @@
 -- The flat prefix sums are the column sums, row after row, from row 0; and the gain over them is the gain by columns. Assumes nothing.
 use mathlib.Core.Path.{_≡_, refl, sym, ap, _∙_}
-use mathlib.Core.List.{List, [], _∷_, _++_}
+use mathlib.Core.List.{List, [], _++_}
 use Prim.Native.Nat.{ℕ, zero, suc, _+_, _-_, _*_, _≤_, _<_}
 use native.Mathlib.Nat.{add-zero, add-suc, mul-le-mul-right, zero-add, suc-mul}
 use native.Mathlib.Numerals.{add-one}

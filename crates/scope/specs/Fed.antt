@@ -12,7 +12,7 @@ use Rattle.scope.specs.Asked.{Matrix, Settings}
 use Rattle.scope.specs.Refusals.{Answer, refused, given}
 use Rattle.scope.specs.Sums.{plus, flatSums}
 use Rattle.scope.specs.Calls.{sumsOf, Room, TreeAsked, TreeTold, treeCall, countedCall}
-use Rattle.scope.specs.Feed.{State, opened, openCall, FeedAsked, feedCall, closeAnswer, FedAsked, fedCall, fedCountedCall}
+use Rattle.scope.specs.Feed.{State, opened, openCall, feedCall, closeAnswer, FedAsked, fedCall, fedCountedCall}
 
 -- ---- what a lot leaves, in a reader's words: `after` is the sums `before` with the lot added after c cells of d columns
 pub record Adds (lot : List Float) (d c : ℕ) (before after : List Float) : Type 0 where

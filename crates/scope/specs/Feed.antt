@@ -1,13 +1,12 @@
 -- Rows while the deck feeds: "prefix sums taken from cells in whatever lots arrive, a lot ending mid-row or being empty", and the later sheet, which
 -- "reads these sums and takes no matrix".
-use mathlib.Core.Path.{_≡_}
 use mathlib.Core.List.{List, [], _∷_, _++_}
-use Prim.Native.Nat.{ℕ, zero, suc, _+_, _*_, _<_, _≤_}
+use Prim.Native.Nat.{ℕ, zero, suc, _+_, _*_}
 use lib.Dec.{ltb}
 use lib.Ieee.{Float}
 use lib.ListN.{length, take, set, replicate}
 use Rattle.scope.specs.Floats.{+0}
-use Rattle.scope.specs.Lists.{at, holding}
+use Rattle.scope.specs.Lists.{at}
 use Rattle.scope.specs.Asked.{Settings}
 use Rattle.scope.specs.Refusals.{Test, test, firstOf, Answer, unless, toldUnless, leftUnless, no1-sizes, no2, no3, no4, no5, no7}
 use Rattle.scope.specs.Sums.{plus}

@@ -1,5 +1,5 @@
 -- `binary_segmentation` meets its contract: a walk of its MIR, by hand: it is prepared, and grown; the sums that it stored are lent for that, and only read. Assumes nothing.
-use mathlib.Core.Path.{_≡_, refl, sym, _∙_}
+use mathlib.Core.Path.{_≡_, refl, _∙_}
 use mathlib.Core.List.{List, [], _∷_}
 use Prim.Native.Nat.{ℕ}
 use native.Mathlib.Omega.{arith}

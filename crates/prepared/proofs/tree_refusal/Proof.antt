@@ -6,7 +6,7 @@ use Prim.Native.Nat.{ℕ}
 use denote.Ref.{now}
 use lib.ListN.{take, drop}
 use Rattle.scope.specs.Refusals.{Test, firstOf}
-use Rattle.scope.specs.Calls.{TreeAsked, runTests, treeTests, treeRefusal}
+use Rattle.scope.specs.Calls.{TreeAsked, treeTests, treeRefusal}
 use Rattle.control.specs.Settings.{settingsOf}
 use Rattle.control.proofs.Clean.{answers, stops, passes}
 use Rattle.prepared.proofs.Clean.{RunClean, run-clean}

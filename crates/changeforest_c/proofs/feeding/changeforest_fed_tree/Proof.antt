@@ -1,6 +1,6 @@
 -- `changeforest_fed_tree` meets its contract: a walk of its MIR, by hand: how many nodes are lent on, one call of the entry point, and one that tells what was
 -- grown. Assumes nothing.
-use mathlib.Core.Path.{_≡_, refl}
+use mathlib.Core.Path.{refl}
 use mathlib.Core.List.{[], _∷_}
 use Prim.Native.Nat.{_≤_}
 use lib.ListN.{length}
