@@ -14,7 +14,7 @@ use Rattle.scope.specs.Lists.{_∈_, at, every}
 use Rattle.scope.specs.Asked.{Matrix}
 use Rattle.scope.specs.Refusals.{Test, test, firstOf, given, unless, toldUnless, leftUnless, mostRows, mostNeighbours, mostColumns, mostPermutations, outside, wrongMatrix, wrongSegment}
 use Rattle.scope.specs.Rounding.{wholeRoot}
-use Rattle.scope.specs.Sums.{flatSums, prefixSums}
+use Rattle.scope.specs.Sums.{plus, flatSums, prefixSums}
 use Rattle.scope.specs.Origin.{direct}
 use Rattle.scope.specs.Grid.{Record, blank, best, trials, search}
 use Rattle.scope.specs.Greatest.{numeric}
@@ -82,16 +82,19 @@ unfolding every
 zeros zero = refl
 zeros (suc k) = zeros k
 
+plus-numeric : (cells : List Float) → AllF64 cells → every isFinite cells ≡ true → (k : ℕ) → k < length cells → (sum : Float) → numeric sum ≡ true → numeric (plus (at cells k) sum) ≡ true
+plus-numeric cells held finite k h sum n =
+    let cell = at-in cells k nan h in
+    add-numeric binary64 _ sum (zero-plus-finite binary64 _ (every-of (fits binary64) cells held _ cell) (every-of isFinite cells finite _ cell)) n
+
 module _ (x : Matrix) (s : Sized x) (held : AllF64 (x .cells)) where
   all-sums : (k : ℕ) → k ≤ length (x .cells) → every numeric (flatSums (x .cells) (x .d) k) ≡ true
   unfolding flatSums
   all-sums zero h = zeros (x .d)
   all-sums (suc k) h =
       let before = all-sums k (omega arith) in
-      let cell = at-in (x .cells) k nan (omega arith) in
       let sum = at-in (flatSums (x .cells) (x .d) k) k nan (omega (arith, length-flat (x .cells) (x .d) k, s .some-columns)) in
-      every-end numeric (flatSums (x .cells) (x .d) k) _ before
-      (add-numeric binary64 _ _ (zero-plus-finite binary64 _ (every-of (fits binary64) (x .cells) held _ cell) (every-of isFinite (x .cells) (s .finite) _ cell)) (every-of numeric _ before _ sum))
+      every-end numeric (flatSums (x .cells) (x .d) k) _ before (plus-numeric (x .cells) held (s .finite) k (omega arith) _ (every-of numeric _ before _ sum))
 
   sums-numeric : AllNumeric (sumsOf x)
   unfolding prefixSums
@@ -110,10 +113,8 @@ module _ (a : FeedAsked) (held : AllF64 (a .lot)) (stood : AllNumeric (a .sums))
   lot-sums finite room zero h = stood
   lot-sums finite room (suc k) h =
       let before = lot-sums finite room k (omega arith) in
-      let cell = at-in (a .lot) k nan (omega arith) in
       let sum = at-in (left k) (a .state .count + k) nan (let e = length-fed (a .lot) (a .state .d) (a .state .count) (a .sums) k in omega arith) in
-      every-set numeric (left k) _ _ before
-      (add-numeric binary64 _ _ (zero-plus-finite binary64 _ (every-of (fits binary64) (a .lot) held _ cell) (every-of isFinite (a .lot) finite _ cell)) (every-of numeric _ before _ sum))
+      every-set numeric (left k) _ _ before (plus-numeric (a .lot) held finite k (omega arith) _ (every-of numeric _ before _ sum))
 
   feed-numeric : AllNumeric (feedCall a .sums)
   unfolding feedCall feedRefusal

@@ -17,7 +17,7 @@ use Rattle.scope.specs.Feed.{State, opened, openCall, feedCall, closeAns
 -- ---- what a lot leaves, in a reader's words: `after` is the sums `before` with the lot added after c cells of d columns
 pub record Adds (lot : List Float) (d c : ℕ) (before after : List Float) : Type 0 where
   pub long : length after ≡ length before
-  -- "the entries d+c to d+c+k-1, each (0 + cell) + the entry d before"
+  -- the entries from d + c on, as many as there are cells: each is (0 + cell) + the entry d before it
   pub each : (k : ℕ) → k < length lot → at after (d + c + k) ≡ plus (at lot k) (at after (c + k))
   -- the others stay
   pub earlier : (i : ℕ) → i < d + c → at after i ≡ at before i
@@ -92,7 +92,7 @@ pub record SoFar (n d : ℕ) (found : List Float) (h : Handed) : Type 0 where
   pub state : h .state ≡ record { n = n; d = d; count = length (h .taken) }
   pub few : length (h .taken) ≤ n * d
   pub finite : every isFinite (h .taken) ≡ true
-  -- "the first d + count sums are those of the cells so far, and the rest as found"
+  -- the first d + count sums are those of the cells so far, and the rest is as found
   pub sums : h .sums ≡ holding (flatSums (h .taken) d (length (h .taken))) found
 
 pub record WhileFed (n d : ℕ) (found : List Float) (h : Handed) : Type 0 where

@@ -27,7 +27,7 @@ cellsIn s = s .n * s .d
 abbrev pub sumsIn : State → ℕ
 sumsIn s = (s .n + 1) * s .d
 
--- ---- "1 for a size and 7 as ever, 4 for a bad cell, then 13 for too many cells": so many more
+-- ---- "1 for a size and 7 as ever, 4 for a bad cell, then 13 for too many cells": those taken and so many more
 abbrev pub no13 : State → ℕ → Test
 no13 s more = test (ltb (cellsIn s) (s .count + more)) 13
 
@@ -61,7 +61,7 @@ openCall a =
 
 -- ---- feed: a lot of cells, and the sums as they stand
 
--- "of a lot of k cells after c, the entries d+c to d+c+k-1, each (0 + cell) + the entry d before"
+-- the first k cells of a lot, after c cells: one more is the entry d + c + k, by the rule of prefix sums (0 + cell) + the entry d before it
 unfoldable pub fedSums : List Float → ℕ → ℕ → List Float → ℕ → List Float
 fedSums lot d c sums zero = sums
 fedSums lot d c sums (suc k) = let before = fedSums lot d c sums k in set before (d + c + k) (plus (at lot k) (at before (c + k)))
