@@ -1,36 +1,26 @@
 -- The gain of all-zero readings is 0, so that a run of them at a threshold below 0 has as many nodes as any. Assumes nothing.
 use mathlib.Core.Path.{_≡_, refl, _∙_}
-use mathlib.Core.Bool.{Bool, true, false, _||_, false≢true, Bool·beq}
+use mathlib.Core.Bool.{Bool, true, false}
 use mathlib.Core.List.{List}
 use Prim.Native.Nat.{ℕ, zero, suc, _+_, _-_, _*_, _≤_, _<_}
 use native.Mathlib.Nat.{zero-mul, mul-pos, mul-le-mul-right, mul-le-mul, suc-mul}
 use native.Mathlib.Omega.{arith}
-use borrow.Author.Tests.{ne-eqb, eqb-true}
-use lib.Dec.{eqb}
+use borrow.Author.Tests.{ne-eqb}
 use lib.IntN.{ℤ, pos}
 use lib.ListN.{length}
-use lib.Ieee.{Float, nan, inf, fin, binary64, up, down, sum, add, sub, mul, eq}
-use lib.Ieee.Fits.{down-pos, up-pos}
+use lib.Ieee.{Float, nan, fin, binary64, up, down, sum, add, sub, mul, eq}
+use lib.Ieee.Fits.{down-pos}
 use Rattle.scope.specs.Floats.{_⊕_, _⊗_, whole, +0}
 use Rattle.scope.specs.Lists.{at, every}
 use Rattle.scope.specs.Sums.{plus, column}
 use Rattle.scope.specs.Columns.{columnTerms, columnGain}
 use Rattle.scope.specs.Calls.{gainIn}
-use Rattle.scope.proofs.Members.{first-of, at-in, every-of}
+use Rattle.scope.proofs.Members.{at-in, every-of}
 use Rattle.scope.proofs.Sums.{gain-by-columns}
-use Rattle.demand.proofs.Wholes.{Is, whole-is, add-is, mul-is, round-0, mul-0, div-0}
+use Rattle.scope.proofs.Zeros.{round-0, zero-is}
+use Rattle.demand.proofs.Wholes.{Is, whole-is, add-is, mul-is, mul-0, div-0}
 
 -- ---- a cell that equals 0, and the sums
-zero-is : (x : Float) → eq x +0 ≡ true → (s : Bool) × (e : ℤ) × (x ≡ fin s 0 e)
-unfolding eq
-zero-is nan h = absurd (false≢true h)
-zero-is (inf s) h = absurd (false≢true h)
-zero-is (fin s zero e) h = (s, e, refl)
-zero-is (fin s (suc m) e) h =
-    let t = first-of (eqb (suc m * up e * 1) (0 * 1 * down e)) (Bool·beq s false || eqb (suc m * up e * 1) 0) h in
-    let p : 0 < suc m * up e = mul-pos (omega arith) (up-pos e) in
-    absurd (omega (arith, eqb-true (suc m * up e * 1) (0 * 1 * down e) t))
-
 sum-0 : (s : Bool) (a b c : ℕ) → a ≡ 0 → b ≡ 0 → 0 < c → sum binary64 false a s b c ≡ +0
 unfolding sum
 sum-0 true a b c h k p = rw (h, k) (round-0 c p)

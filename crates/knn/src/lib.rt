@@ -4,25 +4,26 @@ use rows::Offset;
 use rows::Position;
 ghost use mathlib.Core.Path.{_≡_};
 ghost use Prim.Native.Nat.{_-_, _<_, _≤_};
-ghost use mathlib.Core.Bool.{_&&_};
-ghost use lib.Dec.{leb, ltb};
+ghost use mathlib.Core.Bool.{not, _&&_};
+ghost use lib.Dec.{leb, ltb, eqb};
 ghost use lib.ListN.{length};
 ghost use Rattle.scope.specs.Rounding.{wholeRoot};
 ghost use Rattle.scope.specs.Lists.{holding, select};
 ghost use Rattle.scope.specs.Neighbours as scope;
 ghost use Rattle.distances.specs.Matrix.{Filled};
 
-// Whether a row belongs to the segment [start, stop).
-fn is_inside(row: Position, start: Position, stop: Position) -> bool
-    ensures { λ r. ⌜ r ≡ (leb (start .0) (row .0) && ltb (row .0) (stop .0)) ⌝ }
+// Whether `other` can be a neighbour of `row`: a row of the segment [start, stop), and not the row itself.
+fn is_neighbour(other: Position, row: Position, start: Position, stop: Position) -> bool
+    ensures { λ r. ⌜ r ≡ (not (eqb (other .0) (row .0)) && (leb (start .0) (other .0) && ltb (other .0) (stop .0))) ⌝ }
 {
-    if row.0 < start.0 {
+    if other.0 == row.0 {
         return false;
     }
-    row.0 < stop.0
+    start.0 <= other.0 && other.0 < stop.0
 }
 
-// How many of a row's k nearest neighbours in the segment [start, stop) stand at or past the split. The first of its order is dropped.
+// How many of a row's k nearest neighbours in the segment [start, stop) stand at or past the split. The row itself is dropped from its order, wherever it
+// stands.
 fn count_past(
     order: &[u32],
     row: Position,
@@ -37,14 +38,14 @@ fn count_past(
 {
     let mut seen = 0;
     let mut count = 0;
-    for at in 1..order.len() {
+    for at in 0..order.len() {
         if seen == k {
             return count;
         }
-        let neighbour = Position(order[at] as usize);
-        if is_inside(neighbour, start, stop) {
+        let other = Position(order[at] as usize);
+        if is_neighbour(other, row, start, stop) {
             seen += 1;
-            if split.0 <= neighbour.0 {
+            if split.0 <= other.0 {
                 count += 1;
             }
         }

@@ -1,11 +1,11 @@
 -- The candidates are the allowed rows, ascending; refusals 9 and 10 are given exactly if there is none. Assumes nothing.
 use mathlib.Core.Path.{_≡_, refl, sym, ap, _∙_}
 use mathlib.Core.Logic.{_↔_}
-use mathlib.Core.Bool.{Bool, true, false, cond, not, _&&_, _||_, false≢true, true≢false}
+use mathlib.Core.Bool.{Bool, true, false, cond, not, _&&_, _||_, true≢false}
 use mathlib.Core.List.{List, [], _∷_, _++_, List·Memᴰ, List·Memᴰ·head, List·Memᴰ·tail}
 use Prim.Native.Nat.{ℕ, zero, suc, _+_, _-_, _*_, _≤_, _<_}
 use native.Mathlib.Omega.{arith}
-use borrow.Author.Tests.{ltb-true, ltb-false, leb-true, lt-ltb, le-leb, leb-false}
+use borrow.Author.Tests.{ltb-true, ltb-false, leb-true, lt-ltb, le-leb, leb-false, not-true}
 use lib.Dec.{ltb, leb}
 use Rattle.scope.specs.Lists.{upward, keep, select, isEmpty}
 use Rattle.scope.specs.Asked.{Shortest, oneMore, endOf}
@@ -53,10 +53,6 @@ barred-not (a ∷ b ∷ ps) x f = go (ltb a x) (leb x b) refl refl (barred-not p
     go true true i j r = absurd (f a b here (ltb-true a x i) (leb-true x b j))
     go true false i j r = r
     go false t i j r = r
-
-not-true : (b : Bool) → not b ≡ true → b ≡ false
-not-true true h = absurd (false≢true h)
-not-true false h = refl
 
 -- no pair stands in an empty list
 pub no-pair : (ps : List ℕ) (a b : ℕ) → ps ≡ [] → Pair a b ps → ⊥

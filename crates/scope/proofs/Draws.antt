@@ -4,11 +4,11 @@ use mathlib.Core.Bool.{Bool, true, _&&_}
 use mathlib.Core.List.{List, [], _∷_, List·Memᴰ·head, List·Memᴰ·tail, List·Memᴰ·not-nil, List·Memᴰ·cases-cons}
 use mathlib.Core.Logic.{⊎-elim}
 use mathlib.Core.Option.{Option, none, some}
-use Prim.Native.Nat.{ℕ, zero, suc, _+_, _*_, _≤_, _<_}
+use Prim.Native.Nat.{ℕ, suc, _+_, _*_, _≤_, _<_}
 use native.Mathlib.Nat.{add-zero, zero-add}
 use native.Mathlib.Omega.{arith}
 use borrow.Author.Tests.{lt-ltb, ltb-true}
-use lib.ListN.{length, getD, take, length-take}
+use lib.ListN.{length, getD, length-take}
 use lib.Seq.{take-all}
 use Rattle.scope.specs.Lists.{_∈_, select}
 use Rattle.scope.specs.Asked.{Source}
@@ -17,7 +17,7 @@ use Rattle.scope.specs.Origin.{Origin, draw}
 use Rattle.scope.specs.Grid.{Record}
 use Rattle.scope.specs.Layers.{Segment, StoredSegment, ofOrigin, endsOf, stored}
 use Rattle.scope.specs.Draws.{pairsOf, numbered, isSearched, isFound, drawn, storedSegments, mostStored, PairAt, StoredDraws}
-use Rattle.scope.proofs.Lists.{select-are, select-all}
+use Rattle.scope.proofs.Lists.{take-in, select-are, select-all}
 use Rattle.scope.proofs.Members.{first-of, second-of}
 use Rattle.scope.proofs.Stored.{stored-few, length-seeded}
 use Rattle.scope.proofs.Never.{never}
@@ -91,11 +91,6 @@ module _ (find : ℕ → ℕ → Option Record) where
   isStored s = isSearched (endsOf s) && isFound (find (s .start) (s .stop))
 
   -- ---- in a reader's words
-  take-in : {A : Type 0} (k : ℕ) (l : List A) (x : A) → x ∈ take k l → x ∈ l
-  take-in zero l x i = absurd (List·Memᴰ·not-nil i)
-  take-in (suc k) [] x i = absurd (List·Memᴰ·not-nil i)
-  take-in (suc k) (y ∷ l) x i = ⊎-elim (λ e. List·Memᴰ·head e) (λ j. List·Memᴰ·tail (take-in k l x j)) (List·Memᴰ·cases-cons i)
-
   found : (o : Option Record) → isFound o ≡ true → (r : Record) × (o ≡ some r)
   found none h = never (cc)
   found (some r) h = (r, refl)

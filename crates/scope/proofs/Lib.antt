@@ -22,6 +22,8 @@ pub mod Origins
 pub mod Signs
 pub mod Finite
 pub mod Negated
+pub mod Zeros
 pub mod Ordering
+pub mod Others
 pub mod Permuted
 pub mod Numbers

@@ -1,14 +1,14 @@
 -- Laws of the list functions that the definitions use. Assumes nothing.
 use mathlib.Core.Path.{_≡_, refl, sym, ap, _∙_}
 use mathlib.Core.Logic.{_↔_, _⊎_, inl, inr, ⊎-elim}
-use mathlib.Core.Bool.{Bool, true, false, false≢true}
+use mathlib.Core.Bool.{Bool, true, false, _&&_, false≢true}
 use mathlib.Core.List.{List, [], _∷_, _++_, append-assoc, List·Memᴰ, List·Memᴰ·head, List·Memᴰ·tail, List·Memᴰ·not-nil, List·Memᴰ·cases-cons, List·Memᴰ·append-cases, Memᴰ·append-left, Memᴰ·append-right, List·Memᴰ·eq-of-singleton}
 use Prim.Native.Nat.{ℕ, zero, suc, _+_, _≤_, _<_}
 use native.Mathlib.Numerals.{add-one}
 use native.Mathlib.Omega.{arith}
 use borrow.Author.Tests.{eqb-true, eqb-false}
 use lib.Dec.{eqb}
-use lib.ListN.{length, getD, set, drop, length-append}
+use lib.ListN.{length, getD, set, take, drop, length-append}
 use lib.Seq.{drop-cons, set-at}
 use Rattle.scope.specs.Lists.{upward, keep, select}
 
@@ -25,6 +25,16 @@ select-append p (x ∷ xs) ys = rw (select-append p xs ys) (go (p x))
     go : (b : Bool) → keep b x (select p xs ++ select p ys) ≡ keep b x (select p xs) ++ select p ys
     go true = refl
     go false = refl
+
+-- what passes one test and then another passes both
+pub select-both : {A : Type 0} (p q : A → Bool) (xs : List A) → select q (select p xs) ≡ select (λ x. p x && q x) xs
+unfolding select
+select-both p q [] = refl
+select-both p q (x ∷ xs) = go (p x) (select-both p q xs)
+  where
+    go : (b : Bool) → select q (select p xs) ≡ select (λ x. p x && q x) xs → select q (keep b x (select p xs)) ≡ keep (b && q x) x (select (λ x. p x && q x) xs)
+    go true h = ap (keep (q x) x) h
+    go false h = h
 
 -- what is kept stood there and passed, and all that passes is kept
 pub select-are : {A : Type 0} (p : A → Bool) (xs : List A) (x : A) → List·Memᴰ x (select p xs) → List·Memᴰ x xs × (p x ≡ true)
@@ -46,6 +56,12 @@ select-all p (y ∷ xs) x i t = go (p y) refl (λ j. select-all p xs x j t) (Lis
     go true e rest (inr j) = List·Memᴰ·tail (rest j)
     go false e rest (inl w) = absurd (false≢true (sym e ∙ sym (ap p w) ∙ t))
     go false e rest (inr j) = rest j
+
+-- ---- take
+pub take-in : {A : Type 0} (k : ℕ) (l : List A) (x : A) → List·Memᴰ x (take k l) → List·Memᴰ x l
+take-in zero l x i = absurd (List·Memᴰ·not-nil i)
+take-in (suc k) [] x i = absurd (List·Memᴰ·not-nil i)
+take-in (suc k) (y ∷ l) x i = ⊎-elim (λ e. List·Memᴰ·head e) (λ j. List·Memᴰ·tail (take-in k l x j)) (List·Memᴰ·cases-cons i)
 
 -- ---- upward
 pub length-upward : (lo k : ℕ) → length (upward lo k) ≡ k

@@ -49,12 +49,12 @@ told-in zero l x i = i
 told-in (suc k) l x i = absurd (List·Memᴰ·not-nil i)
 
 -- ---- a matrix that 1 and 4 don't refuse
-record Sized (x : Matrix) : Type 0 where
+pub record Sized (x : Matrix) : Type 0 where
   some-rows : 1 ≤ x .n
   most-rows : x .n ≤ mostRows
   some-columns : 1 ≤ x .d
-  long : length (x .cells) ≡ x .n * x .d
-  finite : every isFinite (x .cells) ≡ true
+  pub long : length (x .cells) ≡ x .n * x .d
+  pub finite : every isFinite (x .cells) ≡ true
 
 module _ (most : ℕ) (few : most ≤ mostRows) (x : Matrix) where
   sized : wrongMatrix most (x .cells) (x .n) (x .d) ≡ false → not (every isFinite (x .cells)) ≡ false → Sized x
@@ -174,23 +174,23 @@ module _ (a : PredictAsked) where
   unfolding predictRefusal
   tested z = not-held (predictTests a) (all-in-order .predict a) z
 
-  predict-sized : predictRefusal a ≡ 0 → Sized (a .order .matrix)
+  pub predict-sized : predictRefusal a ≡ 0 → Sized (a .order .matrix)
   predict-sized z = sized mostNeighbours (omega arith) (a .order .matrix) (tested z 0 (omega arith)) (tested z 1 (omega arith))
 
-  some-segment : predictRefusal a ≡ 0 → (1 ≤ a .stop - a .start) × (a .stop - a .start ≤ mostRows)
+  pub some-segment : predictRefusal a ≡ 0 → (a .start < a .stop) × (a .stop ≤ a .order .matrix .n)
   unfolding wrongSegment
   some-segment z =
       let (i, j) = or-false (ltb (a .stop) (a .start)) (ltb (a .order .matrix .n) (a .stop)) (tested z 5 (omega arith)) in
       let other = eqb-false (a .start) (a .stop) (tested z 7 (omega arith)) in
-      omega (arith, ltb-false (a .stop) (a .start) i, ltb-false (a .order .matrix .n) (a .stop) j, predict-sized z .most-rows)
+      (omega (arith, ltb-false (a .stop) (a .start) i), omega (arith, ltb-false (a .order .matrix .n) (a .stop) j))
 
   predictions-told : AllNumeric (toldUnless (predictRefusal a) (predictionsOf a))
   predictions-told =
       told-every numeric (predictRefusal a) (predictionsOf a)
       (λ z.
-      let L = some-segment z in
+      let h = some-segment z in
       let x = a .order .matrix in
-      all-predictions (x .cells) (x .n) (x .d) (a .start) (a .stop) (a .split) (root-least (a .stop - a .start) (L .0)) (omega (arith, root-most (a .stop - a .start))) (a .stop - a .start))
+      all-predictions (x .cells) (x .n) (x .d) (a .start) (a .stop) (a .split) (root-least (a .stop - a .start) (omega arith)) (omega (arith, root-most (a .stop - a .start), predict-sized z .most-rows)) (a .stop - a .start))
 
 -- ---- what a search and a pick answer
 answered : (k : ℕ) (r : Record) (s : Split) → numeric (r .gain) ≡ true → unless k (splitOf r) ≡ given s → numeric (s .gain) ≡ true

@@ -19,7 +19,7 @@ use Rattle.scope.proofs.Members.{same-list}
 
 module _ (ds : List Float) where
   -- no two rows come before each other
-  before-asym : (a b : ℕ) → Before ds a b → Before ds b a → ⊥
+  pub before-asym : (a b : ℕ) → Before ds a b → Before ds b a → ⊥
   before-asym a b (inl h) (inl k) = both h (lt-asym (getD ds b +0) (getD ds a +0) k)
   before-asym a b (inl h) (inr k) = both h (k .0)
   before-asym a b (inr h) (inl k) = both k (h .0)

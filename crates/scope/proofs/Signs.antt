@@ -150,7 +150,7 @@ module _ (cells : List Float) (d i : ℕ) where
           rw e (getD-at (distances cells d i k) (squares cells d i k d) [] x k (length-distances k))
 
 module _ (cells : List Float) (n d : ℕ) (finite : every isFinite cells ≡ true) (sized : length cells ≡ n * d) where
-  cell-finite : (i c : ℕ) → i < n → c < d → isFinite (at cells (i * d + c)) ≡ true
+  pub cell-finite : (i c : ℕ) → i < n → c < d → isFinite (at cells (i * d + c)) ≡ true
   cell-finite i c h k = every-of isFinite cells finite _ (at-in cells (i * d + c) nan (omega (arith, mul-le-mul-right d h, add-mul i 1 d)))
 
   -- a squared distance, over the first c columns

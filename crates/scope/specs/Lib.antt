@@ -1,4 +1,4 @@
--- Document 01, section by section, in its order; and beside it what document 02 adds: the closed end, draws, rows while the deck feeds, why a row is not on the sheet, and where a cut came from.
+-- Document 01, section by section, in its order; and beside it what document 02 adds: the closed end, draws, rows while the deck feeds, a reading that is its own neighbour, why a row is not on the sheet, and where a cut came from.
 pub mod Floats
 pub mod Lists
 pub mod Asked
@@ -24,6 +24,8 @@ pub mod Sorted
 pub mod Calls
 pub mod Feed
 pub mod Fed
+pub mod FirstDropped
+pub mod Others
 pub mod Why
 pub mod Before
 pub mod Origins

@@ -3,7 +3,7 @@ use mathlib.Core.Path.{_≡_, refl}
 use mathlib.Core.Bool.{true, false}
 use mathlib.Core.List.{List, [], _∷_, map, flatten}
 use mathlib.Core.Option.{Option, none, some}
-use Prim.Native.Nat.{ℕ, _^_}
+use Prim.Native.Nat.{ℕ, _-_, _^_}
 use Prim.Native.String.{String}
 use lib.IntN.{pos, negsuc}
 use lib.ListN.{length, replicate}
@@ -40,7 +40,7 @@ data Case : Type 0 where
   sheetOf : String → Case
   cutsOf : List ℕ → Shortest → Float → Source → Case
   storedBy : List ℕ → Source → Case
-  countsAt : List ℕ → ℕ → ℕ → ℕ → Case
+  countsAt : List Float → ℕ → ℕ → ℕ → Case
   permuted : List Float → Float → Shortest → Float → ℕ → List ℕ → Case
   seededBy : ℕ → Float → Case
   lengthOf : Float → ℕ → Case
@@ -120,8 +120,8 @@ run (storedBy cells source) =
     let told = storedCall (record { matrix = column cells; shortest = off 1; forbidden = []; source = source; sums = room; records = room }) in
     records (told .answer) (map (λ (r : Record). from (r .start) (r .stop)) (told .records))
 run (countsAt cells start stop x) =
-    let order : OrderingAsked = record { matrix = column cells; ordering = room; distances = room } in
-    predicted (map (countOf (column cells .cells) (length cells) 1 start stop x) (upward start (length cells)))
+    let order : OrderingAsked = record { matrix = record { cells = cells; n = length cells; d = 1 }; ordering = room; distances = room } in
+    predicted (map (countOf cells (length cells) 1 start stop x) (upward start (stop - start)))
     (predictCall (record { order = order; start = start; stop = stop; split = x; room = room }) .predictions)
 run (permuted deltas base s maximum P permutations) =
     tested (permutationAnswer (record {
@@ -218,7 +218,7 @@ marked =
     ∷ record { case = cutsOf (replicate 5 0) (off 1) (fin true 1 (pos 0)) nothing; seen = tree (given (record { nodes = 7; records = 3; cuts = 3; stored = 0 })) (1 ∷ 2 ∷ 3 ∷ []) }
     -- M9 rows 0,1,3,7, [0,4), split 2: counts 1,1,0,1 of k=2
     ∷ record {
-      case = countsAt (0 ∷ 1 ∷ 3 ∷ 7 ∷ []) 0 4 2;
+      case = countsAt (map whole (0 ∷ 1 ∷ 3 ∷ 7 ∷ [])) 0 4 2;
       seen = predicted (1 ∷ 1 ∷ 0 ∷ 1 ∷ []) ((whole 1 ⊘ whole 2) ∷ (whole 1 ⊘ whole 2) ∷ (whole 0 ⊘ whole 2) ∷ (whole 1 ⊘ whole 2) ∷ []);
     }
     -- M10 deltas 1,0,-1, base 0, m=1, maximum 1, permutations 210, 012, 102: counter 3, p = 0.75
@@ -240,6 +240,13 @@ marked =
     -- and an empty forbidden list is not the same as none: M1's rows
     ∷ record { case = guessesOf (off 3) 0 10 (some []); seen = guessed (given (4 ∷ 5 ∷ 6 ∷ [])) }
     ∷ record { case = guessesOf (off 3) 0 10 none; seen = guessed (given (5 ∷ [])) }
+    -- a reading is its own neighbour: rows 5,5,9, [0,3), split 1. The second row's order is 0,1,2, and without itself 0,2: its one neighbour is the first row.
+    -- Without its first it would be 1,2, and the row would count itself
+    ∷ record { case = countsAt (map whole (5 ∷ 5 ∷ 9 ∷ [])) 0 3 1; seen = predicted (1 ∷ 0 ∷ 0 ∷ []) (map whole (1 ∷ 0 ∷ 0 ∷ [])) }
+    -- the same with 1e-200 and 0, whose computed distance is 0
+    ∷ record { case = countsAt (ofBits binary64 0x1668_7e92_154e_f7ac ∷ whole 0 ∷ whole 9 ∷ []) 0 3 1; seen = predicted (1 ∷ 0 ∷ 0 ∷ []) (map whole (1 ∷ 0 ∷ 0 ∷ [])) }
+    -- and in [1,3) of 5,5,9, where the equal row is none of the segment's: each row has the other one
+    ∷ record { case = countsAt (map whole (5 ∷ 5 ∷ 9 ∷ [])) 1 3 2; seen = predicted (1 ∷ 0 ∷ []) (map whole (1 ∷ 0 ∷ [])) }
     -- M2 with the closed end: row 5
     ∷ record { case = allowedRows (on 5) 0 10 []; seen = rows (given 1) (5 ∷ []) }
     -- and one row fewer: refusal 9
@@ -358,7 +365,7 @@ marked =
     ∷ record { case = sheetOver (taken 3 1 4) (whole 10) (replicate 4 (whole 0)); seen = tree (refused 13) [] }
     ∷ []
 
--- M1 to M11, the three rows for the slips, six for the closed end, thirteen for draws, sixteen for why, eleven for origins and 24 for fed runs
+-- M1 to M11, the three rows for the slips, three for equal rows, six for the closed end, thirteen for draws, sixteen for why, eleven for origins and 24 for fed runs
 marked-right : map (λ (c : Marked). run (c .case)) marked ≡ map (λ (c : Marked). c .seen) marked
 unfolding run marked openRefusal openCall fedSums feedRefusal feedCall closeAnswer handedOn after fedRefusal fedCall originText oneMore add sub mul div ofInt ofBits toBits lt le isNan upward select every outside wrongMatrix isBetween wellPaired wrongLayers wrongSegment wrongSplit allBarred wrongPermutations wrongLengths wrongDeck wrongPairs nearestOf truncation ceiling minimalLength wholeRoot isBarred rangeSize candidates flatSums prefixSums term terms innerGain gainOf better best trials search layerLength layerCount layerStep layerStart layerStop layerSegments seededFrom layersTotal stored pairsOf numbered drawn isOdd bothGiven anyPast storedRecords inside choice verdict grow grown recordsOf nodeCount nodes cuts sheet difference squares distances insert ordered orderOf others neighbours countOf predictions isPermutation addDeltas added reaches exceeds counter lengthAnswer candidatesRefusal candidatesCall gainRefusal gainCall searchRefusal searchCall storedRefusal storedCall treeRefusal treeCall predictRefusal predictCall guesses guessesAnswer permutationAnswer placeOf isNear firstBarring whyOf whyRefusal whyCall askedRefusal whyProgram bytes same parts valueOf number cell cellsOf hexValueOf threshold decimalOf hexOf line readLine readLines readInput deckRefusal cutLines sheetText program flatten
 marked-right = refl

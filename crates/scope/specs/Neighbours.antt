@@ -1,10 +1,10 @@
 -- Neighbours: ordering, counts, prediction.
-use mathlib.Core.Bool.{Bool, cond, _&&_}
+use mathlib.Core.Bool.{Bool, not, cond, _&&_}
 use mathlib.Core.List.{List, [], _∷_, _++_}
 use Prim.Native.Nat.{ℕ, zero, suc, _+_, _-_, _*_}
-use lib.Dec.{leb, ltb}
+use lib.Dec.{leb, ltb, eqb}
 use lib.Ieee.{Float, lt}
-use lib.ListN.{length, getD, take, drop}
+use lib.ListN.{length, getD, take}
 use Rattle.scope.specs.Floats.{_⊕_, _⊖_, _⊘_, whole, +0}
 use Rattle.scope.specs.Lists.{at, select}
 use Rattle.scope.specs.Rounding.{wholeRoot}
@@ -51,11 +51,11 @@ unfoldable pub orders : List Float → ℕ → ℕ → ℕ → List ℕ
 orders cells n d zero = []
 orders cells n d (suc i) = orders cells n d i ++ orderOf cells n d i
 
--- ---- "For each row: drop the first of its order, keep rows in [start, stop), take at most k, count those >= split."
+-- ---- "For each row: .., keep rows in [start, stop), take at most k, count those >= split."; document 02: "the row itself is dropped, wherever it stands"
 
--- "drop the first of its order"
+-- the order without the row
 unfoldable pub others : ℕ → List ℕ → List ℕ
-others row order = drop 1 order
+others row order = select (λ j. not (eqb j row)) order
 
 -- the neighbours of a row in [start, stop), nearest first
 unfoldable pub neighbours : ℕ → ℕ → ℕ → List ℕ → List ℕ
