@@ -3,23 +3,24 @@ use mathlib.Core.Path.{_≡_, refl, sym, _∙_, ap, subst}
 use mathlib.Core.Logic.{_≢_, _↔_, inl, inr, ⊎-elim}
 use mathlib.Core.Bool.{Bool, true, false, not, _&&_, true≢false}
 use mathlib.Core.List.{List, [], _∷_, List·Memᴰ·head, List·Memᴰ·tail, List·Memᴰ·not-nil, List·Memᴰ·cases-cons}
-use Prim.Native.Nat.{ℕ, zero, suc, _+_, _-_, _*_, _≤_, _<_}
+use Prim.Native.Nat.{ℕ, zero, suc, _+_, _-_, _*_, _≤_, _<_, min}
 use native.Mathlib.Decide.{decLt}
 use native.Mathlib.Omega.{arith}
-use borrow.Author.Tests.{eqb-true, eqb-false, eq-eqb, ne-eqb, not-true}
+use borrow.Author.Tests.{eqb-true, eqb-false, eq-eqb, ne-eqb, ltb-true, leb-true, lt-ltb, le-leb, not-true}
 use lib.Dec.{leb, ltb, eqb}
 use lib.Ieee.{Float, add, mul, sum, round, eq}
-use lib.ListN.{length, getD, drop}
+use lib.ListN.{length, getD, take, drop, length-take}
 use Rattle.scope.specs.Floats.{+0, isFinite}
-use Rattle.scope.specs.Lists.{_∈_, Pairwise, Distinct, keep, select, every}
+use Rattle.scope.specs.Lists.{_∈_, Pairwise, Distinct, upward, keep, select, every}
 use Rattle.scope.specs.Rounding.{wholeRoot}
 use Rattle.scope.specs.Refusals.{toldUnless}
 use Rattle.scope.specs.Neighbours.{difference, squares, distances, orderOf, others, neighbours, countOf, predictions}
 use Rattle.scope.specs.Sorted.{Before, Sorted, SortedRows}
 use Rattle.scope.specs.Calls.{PredictAsked, predictRefusal, predictionsOf, predictCall}
 use Rattle.scope.specs.FirstDropped as before
-use Rattle.scope.specs.Others.{NoneLower, WithoutRow, LeftOut, AsBefore}
-use Rattle.scope.proofs.Lists.{take-in, select-are, select-all}
+use Rattle.scope.specs.Others.{NoneLower, WithoutRow, Nearest, LeaveOneOut}
+use Rattle.scope.proofs.Lists.{take-in, select-are, select-all, length-upward, upward-are}
+use Rattle.scope.proofs.Members.{first-of, second-of, same-length, upward-distinct}
 use Rattle.scope.proofs.Signs.{unsigned, distance-at, cell-finite, squares-unsigned}
 use Rattle.scope.proofs.Zeros.{less-itself, none-below, above-0, none-above}
 use Rattle.scope.proofs.Ordering.{before-asym, sorted-distinct, order-is}
@@ -125,7 +126,7 @@ module _ (cells : List Float) (n d : ℕ) (finite : every isFinite cells ≡ tru
           let g = first-is x l e in
           (λ h. g .0 (f .0 h), λ h. f .1 (g .1 h))
 
-  pub without-row : WithoutRow cells n d i
+  without-row : WithoutRow cells n d i
   unfolding others
   without-row =
       record {
@@ -138,13 +139,60 @@ module _ (cells : List Float) (n d : ℕ) (finite : every isFinite cells ≡ tru
         exactly = first-dropped;
       }
 
--- ---- no row is among its own neighbours
-pub left-out : LeftOut
-unfolding neighbours
-left-out start stop row order m =
-    let inside : ℕ → Bool = λ j. leb start j && ltb j stop in
-    let kept = take-in (wholeRoot (stop - start)) (select inside (others row order)) row m in
-    others-are row order row .0 (select-are inside (others row order) row kept .0) .1 refl
+-- ---- the neighbours of row i of a segment
+-- the first k of a list stand in R to those that are not among them
+take-pairwise : {A : Type 0} (R : A → A → Type 0) (k : ℕ) (l : List A) → Pairwise R l → (x y : A) → x ∈ take k l → y ∈ l → (y ∈ take k l → ⊥) → R x y
+take-pairwise R zero l h x y m i out = absurd (List·Memᴰ·not-nil m)
+take-pairwise R (suc k) [] h x y m i out = absurd (List·Memᴰ·not-nil m)
+take-pairwise {A = A} R (suc k) (z ∷ l) h x y m i out =
+    let later : y ∈ l = ⊎-elim (λ (e : y ≡ z). absurd (out (List·Memᴰ·head e))) (λ (j : y ∈ l). j) (List·Memᴰ·cases-cons i) in
+    ⊎-elim (λ (e : x ≡ z). subst (λ (w : A). R w y) (sym e) (h .0 y later))
+    (λ (j : x ∈ take k l). take-pairwise R k l (h .1) x y j later (λ o. out (List·Memᴰ·tail o)))
+    (List·Memᴰ·cases-cons m)
+
+module _ (cells : List Float) (n d : ℕ) (finite : every isFinite cells ≡ true) (sized : length cells ≡ n * d) (start stop i : ℕ) (low : start ≤ i) (high : i < stop) (fit : stop ≤ n) where
+  abbrev w : WithoutRow cells n d i
+  w = without-row cells n d finite sized i (omega arith)
+
+  abbrev inside : ℕ → Bool
+  inside j = leb start j && ltb j stop
+
+  -- all other rows of the segment, nearest first
+  abbrev kept : List ℕ
+  kept = select inside (others i (orderOf cells n d i))
+
+  kept-are : (j : ℕ) → (j ∈ kept) ↔ ((start ≤ j) × (j < stop) × (j ≢ i))
+  kept-are j = (
+    λ m.
+        let (o, t) = select-are inside (others i (orderOf cells n d i)) j m in
+        (leb-true start j (first-of (leb start j) (ltb j stop) t), ltb-true j stop (second-of (leb start j) (ltb j stop) t), w .rows j .0 o .1),
+    λ h. select-all inside (others i (orderOf cells n d i)) j (w .rows j .1 (omega arith, h .2)) (rw (le-leb start j (h .0), lt-ltb j stop (h .1))),
+  )
+
+  kept-sorted : Sorted (distances cells d i n) kept
+  kept-sorted = pairwise-select (Before (distances cells d i n)) inside (others i (orderOf cells n d i)) (w .sorted)
+
+  -- the row and they are the segment
+  kept-many : suc (length kept) ≡ stop - start
+  kept-many =
+      same-length (i ∷ kept) (upward start (stop - start)) (λ j m e. kept-are j .0 m .2 (sym e), sorted-distinct (distances cells d i n) kept kept-sorted) (upward-distinct start (stop - start))
+      (λ j m. upward-are start (stop - start) j .1 (⊎-elim (λ (e : j ≡ i). (omega arith, omega arith)) (λ (k : j ∈ kept). let h = kept-are j .0 k in (h .0, omega arith)) (List·Memᴰ·cases-cons m)))
+      (λ j m. let h = upward-are start (stop - start) j .0 m in go j h (eqb j i) refl)
+      ∙ length-upward start (stop - start)
+    where
+      go : (j : ℕ) → (start ≤ j) × (j < start + (stop - start)) → (b : Bool) → eqb j i ≡ b → j ∈ i ∷ kept
+      go j h true e = List·Memᴰ·head (eqb-true j i e)
+      go j h false e = List·Memᴰ·tail (kept-are j .1 (h .0, omega arith, eqb-false j i e))
+
+  nearest-others : Nearest cells n d start stop i
+  unfolding neighbours
+  nearest-others =
+      let k = wholeRoot (stop - start) in
+      record {
+        another = λ j m. kept-are j .0 (take-in k kept j m);
+        many = length-take k kept ∙ ap (min k) (omega (arith, kept-many));
+        nearest = λ j l m a b c out. take-pairwise (Before (distances cells d i n)) k kept kept-sorted j l m (kept-are l .1 (a, b, c)) out;
+      }
 
 -- ---- what a call is told
 module _ (cells : List Float) (n d : ℕ) (finite : every isFinite cells ≡ true) (sized : length cells ≡ n * d) (start stop split : ℕ) (inside : stop ≤ n)
@@ -158,13 +206,18 @@ module _ (cells : List Float) (n d : ℕ) (finite : every isFinite cells ≡ tru
   same-predictions zero h = refl
   same-predictions (suc k) h = rw (same-predictions k (omega arith), same-count (start + k) (omega arith) (omega arith)) refl
 
-pub as-before : (a : PredictAsked) → AsBefore a
+pub leave-one-out : (a : PredictAsked) → LeaveOneOut a
 unfolding predictCall
-as-before a none = go (predictRefusal a) refl
+leave-one-out a =
+    record {
+      without = λ z i h k. let s = predict-sized a z in let fit = some-segment a z .1 in without-row (a .order .matrix .cells) (a .order .matrix .n) (a .order .matrix .d) (s .finite) (s .long) i (omega arith);
+      nearest = λ z i h k. let s = predict-sized a z in nearest-others (a .order .matrix .cells) (a .order .matrix .n) (a .order .matrix .d) (s .finite) (s .long) (a .start) (a .stop) i h k (some-segment a z .1);
+      unchanged = λ none. go none (predictRefusal a) refl;
+    }
   where
-    go : (k : ℕ) → predictRefusal a ≡ k → toldUnless k (predictionsOf a) ≡ toldUnless k (before.predictionsOf a)
-    go zero z =
+    go : ((i : ℕ) → a .start ≤ i → i < a .stop → NoneLower (a .order .matrix .cells) (a .order .matrix .d) i) → (k : ℕ) → predictRefusal a ≡ k → toldUnless k (predictionsOf a) ≡ toldUnless k (before.predictionsOf a)
+    go none zero z =
         let x = a .order .matrix in
         let s = predict-sized a z in
         same-predictions (x .cells) (x .n) (x .d) (s .finite) (s .long) (a .start) (a .stop) (a .split) (some-segment a z .1) none (a .stop - a .start) (omega arith)
-    go (suc k) z = refl
+    go none (suc k) z = refl
