@@ -1,6 +1,7 @@
 //! The probes of docs/DIFFERENCES.md: what the Rust does with small inputs that documents 01 and 02
 //! refuse or read otherwise. No rule is asked here. One line for each, `panics` where it does.
 
+mod before;
 #[allow(dead_code)]
 #[path = "oracle/original.rs"]
 mod original;
@@ -125,6 +126,27 @@ fn ends_and_splits() {
     probe("neighbours in [1,3), split 4", || original::knn(&rows, 1, 3, 4));
     probe("neighbours in [3,1), split 2", || original::knn(&rows, 3, 1, 2));
     probe("neighbours in [0,5), split 2, n 4", || original::knn(&rows, 0, 5, 2));
+}
+
+/// The Rust as it was, and with what document 02 asks to be otherwise.
+fn itself() {
+    let probes: [(&str, &[f64], _, _, _); 7] = [
+        ("5 5 9", &[5.0, 5.0, 9.0], 0, 3, 1),
+        ("1e-200 0 9", &[1e-200, 0.0, 9.0], 0, 3, 1),
+        ("1e-160 0 9", &[1e-160, 0.0, 9.0], 0, 3, 1),
+        ("0 -0 9", &[0.0, -0.0, 9.0], 0, 3, 1),
+        ("5 5 9 6", &[5.0, 5.0, 9.0, 6.0], 1, 4, 2),
+        ("5 5 5 5", &[5.0; 4], 0, 4, 2),
+        ("0 1 3 7", &[0.0, 1.0, 3.0, 7.0], 0, 4, 2),
+    ];
+    for (rows, cells, start, stop, split) in probes {
+        let asked = format!("rows {rows}, neighbours in [{start},{stop}), split {split}");
+        let matrix = column(cells);
+        probe(&format!("{asked}, the first dropped"), || before::knn(&matrix, start, stop, split));
+        probe(&format!("{asked}, the row itself dropped"), || {
+            original::knn(&matrix, start, stop, split)
+        });
+    }
 }
 
 fn picks() {
@@ -306,6 +328,7 @@ fn main() {
     thresholds();
     cells_and_pairs();
     ends_and_splits();
+    itself();
     picks();
     curves();
     permutations();

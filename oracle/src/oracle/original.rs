@@ -239,6 +239,7 @@ pub fn order(matrix: &Matrix) -> (Vec<u32>, Vec<f64>) {
     (ordering, LAST_DISTANCES.take())
 }
 
+/// The row itself is dropped from its order, as document 02 asks (`changes`).
 pub fn knn(matrix: &Matrix, start: usize, stop: usize, split: usize) -> Vec<f64> {
     let (view, control) = (view(matrix), Control::default());
     let neighbours = kNN::new(&view, &control);
