@@ -3,7 +3,7 @@
 use crate::draft::Draft;
 use crate::draws;
 use crate::random::Random;
-use crate::{feed, rows, spoil, values};
+use crate::{feed, neighbours, rows, spoil, values};
 
 pub const KINDS: [&str; 19] = [
     "rel", "f32", "cand", "gain", "search", "stored", "tree", "wild", "why", "feed", "lot",
@@ -59,6 +59,12 @@ fn ends(random: &mut Random, draft: &mut Draft) {
         let least = random.of(&[draft.start, (draft.start + draft.n) / 2]);
         draft.stop = random.between(least, draft.n);
     }
+}
+
+/// A segment of the draft's rows, and a split of it.
+pub fn at_split(random: &mut Random, draft: &mut Draft) {
+    ends(random, draft);
+    draft.split = random.between(draft.start, draft.stop);
 }
 
 /// A segment of the draft's rows, an m that mostly leaves candidates, a forbidden list.
@@ -275,7 +281,7 @@ pub fn draft(random: &mut Random, kind: &'static str, closed_in: u64) -> Draft {
     let closed = CLOSED.contains(&kind) && random.one_in(closed_in);
     let mut draft = Draft { kind, n, closed, ..Draft::default() };
     if MEASURED.contains(&kind) {
-        let n = if matches!(kind, "order" | "knn") { n.min(100) } else { n };
+        let n = if neighbours::KINDS.contains(&kind) { n.min(100) } else { n };
         let d = columns(random, n);
         matrix(random, &mut draft, n, d);
     }
@@ -302,10 +308,7 @@ pub fn draft(random: &mut Random, kind: &'static str, closed_in: u64) -> Draft {
                 apart(&mut draft, stop);
             }
         }
-        "gain" | "knn" => {
-            ends(random, &mut draft);
-            draft.split = random.between(draft.start, draft.stop);
-        }
+        "gain" | "knn" => at_split(random, &mut draft),
         "stored" => {
             segment(random, &mut draft);
             draft.layers = values::layers(random);
@@ -339,6 +342,9 @@ pub fn draft(random: &mut Random, kind: &'static str, closed_in: u64) -> Draft {
             great(random, &mut draft);
         }
         rows::ask(random, &mut draft);
+    }
+    if neighbours::KINDS.contains(&kind) {
+        neighbours::plain(random, &mut draft);
     }
     feed::hand_over(random, &mut draft);
     draft

@@ -5,6 +5,7 @@
 use crate::draft::Draft;
 use crate::draws::{self, Sort};
 use crate::kinds::{matrix, maximum, permutations, pick};
+use crate::neighbours;
 use crate::random::Random;
 use crate::values::{self, fine_layers, SMALLEST_LAYER};
 
@@ -34,6 +35,7 @@ pub fn at_limit(random: &mut Random, draft: &mut Draft) {
             let d = random.of(&[1, 1, 2, 3, 8, 64]);
             matrix(random, draft, n, d);
             (draft.start, draft.stop, draft.split) = (random.of(&[0, 0, n / 5]), n, n / 2);
+            neighbours::at_limit(random, draft);
         }
         "curve" => {
             let length = random.of(&[4_096, 4_097, 4_098]);
@@ -223,6 +225,7 @@ pub fn at_edge(random: &mut Random, draft: &mut Draft) {
             let n = random.of(&[100, 200, 513, 1_024, 1_025]);
             matrix(random, draft, n, 1);
             (draft.start, draft.stop, draft.split) = (random.below(n), n, n);
+            neighbours::at_limit(random, draft);
         }
         "tree" => {
             let n = random.of(&[600, 4_096]);

@@ -7,6 +7,7 @@ mod draws;
 mod feed;
 mod kinds;
 mod limits;
+mod neighbours;
 mod random;
 mod rows;
 mod spoil;

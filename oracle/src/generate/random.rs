@@ -11,6 +11,11 @@ impl Random {
         z ^ (z >> 31)
     }
 
+    /// A generator of its own from where this one stands, which draws nothing from it.
+    pub fn aside(&self) -> Random {
+        Random(Random(self.0).bits())
+    }
+
     pub fn below(&mut self, end: u64) -> u64 {
         ((u128::from(self.bits()) * u128::from(end)) >> 64) as u64
     }
