@@ -1,13 +1,16 @@
-//! sizes GENERATE ORACLE CASES: makes the cases of docs/COMPARISON.md's runs, in the file CASES one seed
-//! after another, has them answered by the oracle, and prints what they come to: the page's tables in
-//! Markdown, the numbers of its sentences one to a line.
+//! sizes GENERATE ORACLE CASES [PART..]: makes the cases of docs/COMPARISON.md's runs, in the file CASES
+//! one seed after another, has them answered by the oracle, and prints what they come to: the page's
+//! tables in Markdown, the numbers of its sentences one to a line. Of the parts named, or of all.
 
+#[path = "../before.rs"]
+mod before;
 // Every number that applies to a case, not the lowest alone, is what the oracle's rules say.
 mod closed;
 mod draws;
 mod later;
 mod limits;
 mod lots;
+mod neighbours;
 mod origins;
 mod rows;
 #[path = "../oracle/rules.rs"]
@@ -23,8 +26,8 @@ use std::io::{BufRead, BufReader, Result};
 use std::process::{exit, Command, Stdio};
 use table::{Table, SENTENCES};
 
-/// What a run is counted for, beside its origins.
-#[derive(Clone, Copy)]
+/// What a run is counted for.
+#[derive(Clone, Copy, PartialEq)]
 enum Part {
     Limits,
     Closed,
@@ -33,46 +36,64 @@ enum Part {
     Lots,
     Later,
     Origins,
+    Neighbours,
 }
+
+use Part::{Closed, Draws, Later, Limits, Lots, Neighbours, Origins, Rows};
+
+const PARTS: [(&str, Part); 8] = [
+    ("limits", Limits),
+    ("closed", Closed),
+    ("draws", Draws),
+    ("rows", Rows),
+    ("lots", Lots),
+    ("later", Later),
+    ("origins", Origins),
+    ("neighbours", Neighbours),
+];
 
 const ALL: &str = "";
 
-/// Seeds from the first to the last, how many cases of each, the kinds.
-const RUNS: [(Part, u64, u64, u64, &str); 28] = [
-    (Part::Limits, 421, 424, 1_500, "limit edge"),
-    (Part::Limits, 721, 724, 1_500, "closed limit edge"),
-    (Part::Limits, 821, 822, 1_500, "wild stored limit edge"),
-    (Part::Limits, 921, 922, 1_500, "why limit edge"),
-    (Part::Limits, 1_141, 1_142, 1_500, "feed lot close fedtree limit edge"),
-    (Part::Limits, 431, 434, 100, "wide"),
-    (Part::Limits, 731, 734, 100, "closed wide"),
-    (Part::Limits, 831, 832, 100, "wild stored wide"),
-    (Part::Limits, 931, 932, 100, "why wide"),
-    (Part::Limits, 1_151, 1_154, 100, "feed lot fedtree wide"),
-    (Part::Closed, 701, 701, 101_000, "closed cand"),
-    (Part::Closed, 702, 702, 101_000, "closed search"),
-    (Part::Closed, 704, 704, 101_000, "closed tree"),
-    (Part::Closed, 705, 705, 101_000, "closed pick"),
-    (Part::Closed, 706, 706, 101_000, "closed guesses"),
-    (Part::Closed, 707, 707, 101_000, "closed perm"),
-    (Part::Draws, 801, 802, 100_000, "wild"),
-    (Part::Draws, 611, 612, 100_000, "stored"),
-    (Part::Draws, 708, 708, 101_000, "closed wild"),
-    (Part::Rows, 901, 902, 100_000, "why"),
-    (Part::Rows, 709, 709, 101_000, "closed why"),
-    (Part::Lots, 1_101, 1_102, 100_000, "feed"),
-    (Part::Lots, 1_111, 1_112, 100_000, "lot"),
-    (Part::Lots, 1_121, 1_121, 101_000, "close"),
-    (Part::Later, 1_131, 1_132, 100_000, "fedtree"),
-    (Part::Later, 710, 710, 101_000, "closed fedtree"),
-    (Part::Origins, 101, 110, 100_000, ALL),
-    (Part::Origins, 1_001, 1_001, 101_000, "tree"),
+/// What for, seeds from the first to the last, how many cases of each, the kinds.
+const RUNS: [(&[Part], u64, u64, u64, &str); 31] = [
+    (&[Limits], 421, 424, 1_500, "limit edge"),
+    (&[Limits], 721, 724, 1_500, "closed limit edge"),
+    (&[Limits], 821, 822, 1_500, "wild stored limit edge"),
+    (&[Limits], 921, 922, 1_500, "why limit edge"),
+    (&[Limits], 1_141, 1_142, 1_500, "feed lot close fedtree limit edge"),
+    (&[Limits, Neighbours], 1_221, 1_222, 1_500, "knn order limit edge"),
+    (&[Limits], 431, 434, 100, "wide"),
+    (&[Limits], 731, 734, 100, "closed wide"),
+    (&[Limits], 831, 832, 100, "wild stored wide"),
+    (&[Limits], 931, 932, 100, "why wide"),
+    (&[Limits], 1_151, 1_154, 100, "feed lot fedtree wide"),
+    (&[Closed], 701, 701, 101_000, "closed cand"),
+    (&[Closed], 702, 702, 101_000, "closed search"),
+    (&[Closed, Origins], 704, 704, 101_000, "closed tree"),
+    (&[Closed], 705, 705, 101_000, "closed pick"),
+    (&[Closed], 706, 706, 101_000, "closed guesses"),
+    (&[Closed], 707, 707, 101_000, "closed perm"),
+    (&[Draws, Origins], 801, 802, 100_000, "wild"),
+    (&[Draws, Origins], 611, 612, 100_000, "stored"),
+    (&[Draws, Origins], 708, 708, 101_000, "closed wild"),
+    (&[Rows, Origins], 901, 902, 100_000, "why"),
+    (&[Rows, Origins], 709, 709, 101_000, "closed why"),
+    (&[Lots], 1_101, 1_102, 100_000, "feed"),
+    (&[Lots], 1_111, 1_112, 100_000, "lot"),
+    (&[Lots], 1_121, 1_121, 101_000, "close"),
+    (&[Later], 1_131, 1_132, 100_000, "fedtree"),
+    (&[Later], 710, 710, 101_000, "closed fedtree"),
+    (&[Origins], 101, 110, 100_000, ALL),
+    (&[Origins], 1_001, 1_001, 101_000, "tree"),
+    (&[Neighbours], 1_201, 1_202, 100_000, "knn"),
+    (&[Neighbours], 1_211, 1_211, 101_000, "order"),
 ];
 
 const DRAWS: [&str; 3] = ["wild", "stored", "closed wild"];
 const ROWS: [&str; 2] = ["why", "closed why"];
 const LOTS: [&str; 2] = ["feed", "lot"];
 const LATER: [&str; 2] = ["fedtree", "closed fedtree"];
+const NEIGHBOURS: [&str; 4] = ["knn", "order", "knn limit edge", "order limit edge"];
 
 /// The runs whose origins are counted.
 const ORIGINS: [&str; 8] =
@@ -92,6 +113,7 @@ struct Counts {
     later: Table,
     refused_later: Table,
     origins: Table,
+    neighbours: Table,
     sentences: Table,
     together: Together,
     /// The rows that the two cases before asked about, and of how many.
@@ -110,8 +132,10 @@ impl Counts {
                 self.sentences.add("", &label, [cases.len() as u64, fewest]);
             }
         }
-        let label = "feed: ways to cut up to 7 cells up, of each n and d: seen; there are";
-        self.sentences.add("", label, lots::ways(&self.cuttings));
+        if !self.cuttings.is_empty() {
+            let label = "feed: ways to cut up to 7 cells up, of each n and d: seen; there are";
+            self.sentences.add("", label, lots::ways(&self.cuttings));
+        }
         self.limits.print("At the limits");
         self.lengths.print("Closed");
         self.draws.print("Draws");
@@ -122,6 +146,7 @@ impl Counts {
         self.later.print("Later sheets");
         self.refused_later.print("");
         self.origins.print("Origins");
+        self.neighbours.print("Neighbours");
         self.sentences.rows.sort();
         self.sentences.print("Sentences");
     }
@@ -161,11 +186,16 @@ fn each(
 }
 
 fn main() -> Result<()> {
-    let arguments: Vec<String> = std::env::args().skip(1).collect();
-    let Ok(paths) = arguments.try_into() else {
-        eprintln!("sizes GENERATE ORACLE CASES");
+    let mut arguments: Vec<String> = std::env::args().skip(1).collect();
+    let names = arguments.split_off(arguments.len().min(3));
+    let part = |name: &String| PARTS.into_iter().find(|(known, _)| known == name);
+    let named: Option<Vec<(&str, Part)>> = names.iter().map(part).collect();
+    let (Ok(paths), Some(named)) = (arguments.try_into(), named) else {
+        let known = PARTS.map(|(name, _)| name).join(" ");
+        eprintln!("sizes GENERATE ORACLE CASES [PART..], of {known}");
         exit(2)
     };
+    let asked = |part| named.is_empty() || named.iter().any(|(_, one)| *one == part);
     let mut counts = Counts {
         limits: Table::of(&["gain", "search", "stored", "tree", "wild", "why", "fedtree"]),
         lengths: Table::of(&["cand", "search", "pick", "guesses", "perm"]),
@@ -177,25 +207,28 @@ fn main() -> Result<()> {
         later: Table::of(&LATER),
         refused_later: Table::of(&LATER),
         origins: Table::of(&ORIGINS),
+        neighbours: Table::of(&NEIGHBOURS),
         sentences: Table::of(&SENTENCES),
         together: Together::new(),
         asked: [(0, 0); 2],
         cuttings: lots::Cuttings::new(),
     };
-    for (part, first, last, count, kinds) in RUNS {
-        for seed in first..=last {
+    for (parts, first, last, count, kinds) in RUNS {
+        let parts: Vec<Part> = parts.iter().copied().filter(|part| asked(*part)).collect();
+        let seeds = if parts.is_empty() { 0..0 } else { first..last + 1 };
+        for seed in seeds {
             each(&paths, (seed, count, kinds), |seen| {
-                match part {
-                    Part::Limits => counts.limits(seen, kinds.contains("wide")),
-                    Part::Closed => counts.closed(seen),
-                    Part::Draws => counts.draws(seen, kinds),
-                    Part::Rows => counts.rows(seen, kinds),
-                    Part::Lots => counts.lots(seen, kinds),
-                    Part::Later => counts.later(seen, kinds),
-                    Part::Origins => (),
-                }
-                if ORIGINS.contains(&kinds) {
-                    counts.origins(seen, kinds);
+                for part in &parts {
+                    match part {
+                        Limits => counts.limits(seen, kinds.contains("wide")),
+                        Closed => counts.closed(seen),
+                        Draws => counts.draws(seen, kinds),
+                        Rows => counts.rows(seen, kinds),
+                        Lots => counts.lots(seen, kinds),
+                        Later => counts.later(seen, kinds),
+                        Origins => counts.origins(seen, kinds),
+                        Neighbours => counts.neighbours(seen, kinds),
+                    }
                 }
             })?;
         }

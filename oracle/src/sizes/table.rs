@@ -67,8 +67,11 @@ impl Table {
         self.some(seen.kind(), label, hold.filter(|_| meant));
     }
 
-    /// Under a title; without one, as more rows of the table before.
+    /// Under a title; without one, as more rows of the table before. Nothing where nothing was counted.
     pub fn print(&self, title: &str) {
+        if self.rows.is_empty() {
+            return;
+        }
         let shown = |cell: &Vec<u64>| cell.iter().map(commas).collect::<Vec<_>>().join("; ");
         let sentences = self.columns == SENTENCES;
         if !title.is_empty() {
