@@ -378,6 +378,7 @@ int main(void)
     static const double two[] = {0.25, 0.5};
     static const struct lists second = {two, LEN(two), none, 0, 0};
     static const double high[] = {1e308, 1e308, 1e308}, steep[] = {0, 0, 1e308, 1e308};
+    static const double equal[] = {5, 5, 9}, nearly[] = {1e-200, 0, 9};
     static const double fed[] = {1, 2, 3, 4, 5, 6}, unfit[] = {2, 3, NAN, 5};
     static const double m7_sums[9 + SPARE] = {0, 0, 0, 0, 0, 8, 16, 24, 32, NAN}, bump_sums[9 + SPARE] = {0, 0, 0, 8, 16, 16, 16, 16, 16};
     static const double odd_sums[9 + SPARE] = {0, 0, 0, 8, NAN, 16, INFINITY, 16, 16};
@@ -395,6 +396,8 @@ int main(void)
     tree("M7 with a layer", m7, LEN(m7), false, 10, layered(half), 13, 4);
     predict("M9", m9, LEN(m9), 4, 2);
     order("M9 ordering", m9, LEN(m9), 16);
+    predict("equal rows", equal, LEN(equal), 3, 1);
+    predict("nearly equal rows", nearly, LEN(nearly), 3, 1);
     test("M10", 1, 3, false, m10, LEN(m10), 0.05);
     segments("M11", m11, LEN(m11), false, layered(half), 3 + SPARE);
     segments("M11 quarter", m11, LEN(m11), false, layered(quarter), 7);

@@ -159,7 +159,8 @@ pub fn ordering(matrix: Matrix) -> Result<Vec<u32>, Refusal> {
     Ok(ordering)
 }
 
-/// For each row of the segment the share of its neighbours there at or past `split`.
+/// For each row of the segment the share of its neighbours there at or past `split`. The row itself is none of them, wherever it stands
+/// in its order.
 pub fn predict(matrix: Matrix, segment: Range<usize>, split: usize) -> Result<Vec<f64>, Refusal> {
     let segment = of_a_run(segment);
     let (mut ordering, mut distances) = ordering_room(matrix.rows);

@@ -92,6 +92,17 @@ fn neighbours() {
 }
 
 #[test]
+fn no_row_is_its_own_neighbour() {
+    let equal = column(&[5.0, 5.0, 9.0]);
+    assert_eq!(owned::ordering(equal).unwrap(), [0, 1, 2, 0, 1, 2, 2, 0, 1]);
+    assert_eq!(owned::predict(equal, 0..3, 1).unwrap(), [1.0, 0.0, 0.0]);
+    // The square of 1e-200 is 0.
+    assert_eq!(owned::predict(column(&[1e-200, 0.0, 9.0]), 0..3, 1).unwrap(), [1.0, 0.0, 0.0]);
+    // The lower of the equal rows is outside the segment.
+    assert_eq!(owned::predict(column(&[5.0, 5.0, 9.0, 6.0]), 1..4, 2).unwrap(), [1.0, 1.0, 0.0]);
+}
+
+#[test]
 fn permutations() {
     let curves = Curves { deltas: [&[1.0, 0.0, -1.0], &[], &[]], count: 1, ..Curves::default() };
     let three = Permutations { entries: &[2, 1, 0, 0, 1, 2, 1, 0, 2], count: 3 };

@@ -32,7 +32,8 @@ pub struct PredictRoom<'a> {
     pub predictions: &'a mut [f64],
 }
 
-/// For each row of the segment the share of its neighbours there at or past `split`. Refusals: 1, 4, 7, 8.
+/// For each row of the segment the share of its neighbours there at or past `split`. The row itself is none of them, wherever it stands
+/// in its order. Refusals: 1, 4, 7, 8.
 pub fn predict(matrix: Matrix, segment: Range<usize>, split: usize, room: PredictRoom) -> Result<(), Refusal> {
     let no = unsafe {
         ffi::changeforest_predict(
