@@ -187,8 +187,9 @@ uint32_t changeforest_ordering(const double *cells, size_t cells_len, size_t n, 
 
 /* For each row of [start, stop), into predictions: the row itself is dropped from its order, wherever it stands there (it is the first,
    unless another row with a lower index is at distance 0 too); of the others the first k that lie in [start, stop) are taken, and
-   those at or past split counted; the prediction is that count divided by k. So no row is its own neighbour. k is the whole square root
-   of stop-start. ordering and distances are filled as by changeforest_ordering. Room: ordering n*n, distances n, predictions stop-start, or 0 where start > stop. Refusals: 1, 4, 7, 8. */
+   those at or past split counted; the prediction is that count divided by k. k is the whole square root of stop-start. So no row is its
+   own neighbour, and the prediction of a segment's only row is 0. ordering and distances are filled as by changeforest_ordering. Room:
+   ordering n*n, distances n, predictions stop-start, or 0 where start > stop. Refusals: 1, 4, 7, 8. */
 uint32_t changeforest_predict(const double *cells, size_t cells_len, size_t n, size_t d, size_t start, size_t stop, size_t split,
                               uint32_t *ordering, size_t ordering_len, double *distances, size_t distances_len, double *predictions,
                               size_t predictions_len);
