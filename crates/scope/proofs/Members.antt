@@ -8,10 +8,10 @@ use native.Mathlib.Nat.{le-antisymm}
 use native.Mathlib.Omega.{arith}
 use borrow.Author.Tests.{eqb-true, eq-eqb}
 use lib.Dec.{eqb}
-use lib.ListN.{length, getD}
-use Rattle.scope.specs.Lists.{_∈_, Pairwise, Distinct, every, upward}
+use lib.ListN.{length, getD, take}
+use Rattle.scope.specs.Lists.{_∈_, Pairwise, Distinct, keep, select, every, upward}
 use Rattle.scope.specs.Curves.{isMember}
-use Rattle.scope.proofs.Lists.{upward-are}
+use Rattle.scope.proofs.Lists.{select-are, upward-are}
 
 pub first-of : (a b : Bool) → (a && b) ≡ true → a ≡ true
 first-of true b h = refl
@@ -94,6 +94,27 @@ module _ {A : Type 0} where
   pairwise-more R [] b h f = (λ y m. absurd (List·Memᴰ·not-nil m), tt)
   pairwise-more R (x ∷ l) b h f =
       (λ y m. ⊎-elim (λ (i : y ∈ l). h .0 y i) (λ (i : y ∈ (b ∷ [])). subst (R x) (sym (List·Memᴰ·eq-of-singleton i)) (f x (List·Memᴰ·head refl))) (List·Memᴰ·append-cases l m), pairwise-more R l b (h .1) (λ a m. f a (List·Memᴰ·tail m)))
+
+-- ---- a part of a list whose members stand in R to every later one
+-- what stands in R to every later one does so in what is kept
+pub pairwise-select : {A : Type 0} (R : A → A → Type 0) (p : A → Bool) (l : List A) → Pairwise R l → Pairwise R (select p l)
+unfolding select
+pairwise-select R p [] h = tt
+pairwise-select R p (x ∷ l) h = go (p x) (pairwise-select R p l (h .1))
+  where
+    go : (b : Bool) → Pairwise R (select p l) → Pairwise R (keep b x (select p l))
+    go true k = (λ y m. h .0 y (select-are p l y m .0), k)
+    go false k = k
+
+-- the first k of a list stand in R to those that are not among them
+pub take-pairwise : {A : Type 0} (R : A → A → Type 0) (k : ℕ) (l : List A) → Pairwise R l → (x y : A) → x ∈ take k l → y ∈ l → (y ∈ take k l → ⊥) → R x y
+take-pairwise R zero l h x y m i out = absurd (List·Memᴰ·not-nil m)
+take-pairwise R (suc k) [] h x y m i out = absurd (List·Memᴰ·not-nil m)
+take-pairwise {A = A} R (suc k) (z ∷ l) h x y m i out =
+    let later : y ∈ l = ⊎-elim (λ (e : y ≡ z). absurd (out (List·Memᴰ·head e))) (λ (j : y ∈ l). j) (List·Memᴰ·cases-cons i) in
+    ⊎-elim (λ (e : x ≡ z). subst (λ (w : A). R w y) (sym e) (h .0 y later))
+    (λ (j : x ∈ take k l). take-pairwise R k l (h .1) x y j later (λ o. out (List·Memᴰ·tail o)))
+    (List·Memᴰ·cases-cons m)
 
 -- ---- the rows that `isMember` finds
 pub member-in : (x : ℕ) (l : List ℕ) → isMember x l ≡ true → x ∈ l

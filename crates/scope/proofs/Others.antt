@@ -9,9 +9,9 @@ use native.Mathlib.Omega.{arith}
 use borrow.Author.Tests.{eqb-true, eqb-false, eq-eqb, ne-eqb, ltb-true, leb-true, lt-ltb, le-leb, not-true}
 use lib.Dec.{leb, ltb, eqb}
 use lib.Ieee.{Float, add, mul, sum, round, eq}
-use lib.ListN.{length, getD, take, drop, length-take}
+use lib.ListN.{length, getD, drop, length-take}
 use Rattle.scope.specs.Floats.{+0, isFinite}
-use Rattle.scope.specs.Lists.{_∈_, Pairwise, Distinct, upward, keep, select, every}
+use Rattle.scope.specs.Lists.{_∈_, Distinct, upward, keep, select, every}
 use Rattle.scope.specs.Rounding.{wholeRoot}
 use Rattle.scope.specs.Refusals.{toldUnless}
 use Rattle.scope.specs.Neighbours.{difference, squares, distances, orderOf, others, neighbours, countOf, predictions}
@@ -20,7 +20,7 @@ use Rattle.scope.specs.Calls.{PredictAsked, predictRefusal, predictionsO
 use Rattle.scope.specs.FirstDropped as before
 use Rattle.scope.specs.Others.{NoneLower, WithoutRow, Nearest, LeaveOneOut}
 use Rattle.scope.proofs.Lists.{take-in, select-are, select-all, length-upward, upward-are}
-use Rattle.scope.proofs.Members.{first-of, second-of, same-length, upward-distinct}
+use Rattle.scope.proofs.Members.{first-of, second-of, pairwise-select, take-pairwise, same-length, upward-distinct}
 use Rattle.scope.proofs.Signs.{unsigned, distance-at, cell-finite, squares-unsigned}
 use Rattle.scope.proofs.Zeros.{less-itself, none-below, above-0, none-above}
 use Rattle.scope.proofs.Ordering.{before-asym, sorted-distinct, order-is}
@@ -46,16 +46,6 @@ module _ (row : ℕ) where
       go : (b : Bool) → eqb x row ≡ b → keep (not b) x (others row l) ≡ l → x ≡ row
       go true e h = eqb-true x row e
       go false e h = absurd (u .0 x (subst (λ (m : List ℕ). x ∈ m) h (List·Memᴰ·head refl)) refl)
-
--- what stands in R to every later one does so in what is kept
-pairwise-select : {A : Type 0} (R : A → A → Type 0) (p : A → Bool) (l : List A) → Pairwise R l → Pairwise R (select p l)
-unfolding select
-pairwise-select R p [] h = tt
-pairwise-select R p (x ∷ l) h = go (p x) (pairwise-select R p l (h .1))
-  where
-    go : (b : Bool) → Pairwise R (select p l) → Pairwise R (keep b x (select p l))
-    go true k = (λ y m. h .0 y (select-are p l y m .0), k)
-    go false k = k
 
 -- ---- the order of row i: the rows of finite cells, in order of their distances
 module _ (cells : List Float) (n d : ℕ) (finite : every isFinite cells ≡ true) (sized : length cells ≡ n * d) (i : ℕ) (row : i < n) where
@@ -140,16 +130,6 @@ module _ (cells : List Float) (n d : ℕ) (finite : every isFinite cells ≡ tru
       }
 
 -- ---- the neighbours of row i of a segment
--- the first k of a list stand in R to those that are not among them
-take-pairwise : {A : Type 0} (R : A → A → Type 0) (k : ℕ) (l : List A) → Pairwise R l → (x y : A) → x ∈ take k l → y ∈ l → (y ∈ take k l → ⊥) → R x y
-take-pairwise R zero l h x y m i out = absurd (List·Memᴰ·not-nil m)
-take-pairwise R (suc k) [] h x y m i out = absurd (List·Memᴰ·not-nil m)
-take-pairwise {A = A} R (suc k) (z ∷ l) h x y m i out =
-    let later : y ∈ l = ⊎-elim (λ (e : y ≡ z). absurd (out (List·Memᴰ·head e))) (λ (j : y ∈ l). j) (List·Memᴰ·cases-cons i) in
-    ⊎-elim (λ (e : x ≡ z). subst (λ (w : A). R w y) (sym e) (h .0 y later))
-    (λ (j : x ∈ take k l). take-pairwise R k l (h .1) x y j later (λ o. out (List·Memᴰ·tail o)))
-    (List·Memᴰ·cases-cons m)
-
 module _ (cells : List Float) (n d : ℕ) (finite : every isFinite cells ≡ true) (sized : length cells ≡ n * d) (start stop i : ℕ) (low : start ≤ i) (high : i < stop) (fit : stop ≤ n) where
   abbrev w : WithoutRow cells n d i
   w = without-row cells n d finite sized i (omega arith)

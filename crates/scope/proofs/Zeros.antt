@@ -1,7 +1,7 @@
 -- Floats that are 0: what 0 rounds to, a finite float less itself, and that a float without a sign is 0 or above it. Assumes nothing.
 use mathlib.Core.Path.{_≡_, refl}
-use mathlib.Core.Bool.{Bool, true, false, _&&_, _||_, false≢true, Bool·beq}
-use Prim.Native.Nat.{ℕ, zero, suc, _-_, _*_, _<_}
+use mathlib.Core.Bool.{Bool, true, false, not, cond, _&&_, _||_, false≢true, Bool·beq}
+use Prim.Native.Nat.{ℕ, zero, suc, _+_, _-_, _*_, _<_}
 use native.Mathlib.Nat.{mul-pos}
 use native.Mathlib.Omega.{arith}
 use borrow.Author.Tests.{eqb-true, eqb-false, lt-ltb, le-ltb}
@@ -22,14 +22,14 @@ pub less-itself : (x : Float) → isFinite x ≡ true → x ⊖ x ≡ +0
 unfolding sub add neg sum
 less-itself nan h = absurd (false≢true h)
 less-itself (inf s) h = absurd (false≢true h)
-less-itself (fin true m e) h =
+less-itself (fin s m e) h =
     let a = m * up e * down e in
     let none : a - a ≡ 0 = omega arith in
-    rw (le-ltb a a (omega arith), none) (round-0 (down e * down e) (mul-pos (down-pos e) (down-pos e)))
-less-itself (fin false m e) h =
-    let a = m * up e * down e in
-    let none : a - a ≡ 0 = omega arith in
-    rw (le-ltb a a (omega arith), none) (round-0 (down e * down e) (mul-pos (down-pos e) (down-pos e)))
+    rw (le-ltb a a (omega arith), none) (go s (a + a) (down e * down e) (mul-pos (down-pos e) (down-pos e)))
+  where
+    go : (s : Bool) (b c : ℕ) → 0 < c → cond (Bool·beq s (not s)) (round binary64 s b c) (round binary64 (s && false) 0 c) ≡ +0
+    go true b c h = round-0 c h
+    go false b c h = round-0 c h
 
 -- without a sign nothing is below 0
 pub none-below : (x : Float) → unsigned x ≡ true → lt x +0 ≡ false
