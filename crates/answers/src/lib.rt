@@ -1,5 +1,7 @@
 // The program's answer to a reading: the text of its output, into lent memory. Inside the library.
 // specs/Answered.antt says what is written, and proofs/Said.antt that it is the program's text for whichever input was read. The room is in the types.
+#![tactic(auto)]
+
 ghost use Rattle.std.specs.Prelude.{◌≡◌, ◌≤◌, length, take};
 ghost use Rattle.demand.specs.Printed.{Answers};
 ghost use Rattle.deck.specs.Meaning.{read_text, Said};

@@ -11,7 +11,7 @@ use stored::records;
 use verdict::{Asked, Verdict};
 
 // How many nodes, records and cuts there are: the places of the next ones.
-#[derive(Drop)]
+#[derive(Clone, Copy)]
 pub struct Counts {
     pub nodes: usize,
     pub records: usize,
@@ -19,7 +19,7 @@ pub struct Counts {
 }
 
 // A segment once it is judged, and the counts behind its node and its record: the leaf that it is, or the record that cuts it.
-#[derive(Drop)]
+#[derive(Clone, Copy)]
 pub enum Judged {
     Uncut(Node, Counts),
     Cut(GainRecord, Counts),

@@ -1,4 +1,6 @@
 // Prefix sums of a matrix, row after row, and the gain of a split from them. Inside the library. After gain/change_in_mean.rs.
+#![tactic(auto)]
+
 ghost use Rattle.std.specs.Prelude.{◌≡◌, ◌++◌, ◌+◌, ◌*◌, ◌<◌, ◌≤◌, length, drop, replicate};
 ghost use Rattle.scope.specs.Floats.{+0};
 ghost use Rattle.scope.specs.Lists.{holding};

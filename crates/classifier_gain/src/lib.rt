@@ -1,4 +1,6 @@
 // A classifier's gain curve from its likelihoods, and what is refused of curves and their permutation test. Inside the library. After document 01, "Curves".
+#![tactic(auto)]
+
 ghost use Rattle.std.specs.Prelude.{◌≡◌, true, false, not, ◌||◌, ◌+◌, ◌-◌, ◌<◌, ◌≤◌, length, take};
 ghost use mathlib.Core.List.{[], ◌∷◌, ◌++◌, flatten};
 ghost use Rattle.scope.specs.Lists.{holding, every};

@@ -1,5 +1,7 @@
 // What every call checks before it stores anything: sizes, finite values, forbidden pairs, segments and splits. Inside the library.
 // Each function answers one test of document 01's table of refusals; which number it gives is the caller's.
+#![tactic(auto)]
+
 ghost use Rattle.std.specs.Prelude.{◌≡◌, true, false, [], ◌∷◌, ◌+◌, ◌*◌, ◌/◌, ◌≤◌, min, leb};
 ghost use Rattle.std.specs.Float.Ieee.{is_nan};
 ghost use Rattle.scope.specs.Floats.{is_finite};
@@ -21,7 +23,7 @@ pub const MOST_LENGTH: usize = 4096;
 pub const MOST_NEIGHBOURS: usize = 1024;
 
 // The shortest part that a split may leave: m rows. The Rust wants one more in the last part; with the closed end m rows do there too.
-#[derive(Drop)]
+#[derive(Clone, Copy)]
 pub struct Shortest {
     pub m: usize,
     pub closed: bool,
@@ -61,7 +63,7 @@ impl Shortest {
 }
 
 // The numbers that a run is asked with; its lists are lent beside them.
-#[derive(Drop)]
+#[derive(Clone, Copy)]
 pub struct Settings {
     pub shortest: Shortest,
     pub threshold: f64,

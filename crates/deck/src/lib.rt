@@ -1,5 +1,7 @@
 // The text program's input, in whatever lots it arrives: what its lines are, and the deck that they make.
 // Inside the library. A function follows its definition of specs/Walk.antt; proofs/ shows what the walk says of the whole input.
+#![tactic(auto)]
+
 ghost use Rattle.std.specs.Prelude.{◌≡◌};
 ghost use Rattle.deck.specs.Meaning.{Right};
 ghost use Rattle.deck.specs.Walk.{tabbed as Walk·tabbed, start as Walk·start, after_cfg, after_no, after_row, after_line, next_line, turned as Walk·turned, judged as Walk·judged, line_end, byte_more, open_step, step as Walk-step, run, fed, at_phase, at_end, read_of};
@@ -11,7 +13,7 @@ use token::Token;
 const MOST_BYTES: usize = 1024;
 
 // Which lines have been: none, `cfg` and any `no`, or a `row` too.
-#[derive(Drop)]
+#[derive(Clone, Copy)]
 pub enum Phase {
     Begun,
     Barring,
@@ -19,14 +21,14 @@ pub enum Phase {
 }
 
 // What a whole line makes of the phase.
-#[derive(Drop)]
+#[derive(Clone, Copy)]
 enum Turn {
     To(Phase),
     Malformed,
 }
 
 // In a line: its number, how many bytes it has so far, up to the most, and the field so far.
-#[derive(Drop)]
+#[derive(Clone, Copy)]
 pub struct Open {
     pub phase: Phase,
     pub number: usize,
@@ -37,21 +39,21 @@ pub struct Open {
 }
 
 // The state of the input: in a line, or past the first malformed one, of which the number is kept.
-#[derive(Drop)]
+#[derive(Clone, Copy)]
 pub enum State {
     Open(Open),
     Bad(usize),
 }
 
 // After a byte.
-#[derive(Drop)]
+#[derive(Clone, Copy)]
 pub struct Moved {
     pub state: State,
     pub event: Event,
 }
 
 // What a whole input is: malformed, with the number of its first malformed line, or a deck.
-#[derive(Drop)]
+#[derive(Clone, Copy)]
 pub enum Read {
     Bad(u64),
     Deck(Given),

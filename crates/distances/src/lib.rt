@@ -1,4 +1,6 @@
 // Each row's order of all rows by squared distance. Inside the library. After classifier/knn.rs.
+#![tactic(auto)]
+
 ghost use Rattle.std.specs.Prelude.{◌≡◌, ◌+◌, ◌-◌, ◌*◌, ◌<◌, ◌≤◌, length};
 ghost use Rattle.scope.specs.Lists.{holding};
 ghost use Rattle.scope.specs.Neighbours as scope;

@@ -1,5 +1,7 @@
 // Draws of wild segments: the pairs of a lent list, what is refused of the lists that stored segments come from, and room for their records.
 // Inside the library. After segmentation.rs, "WBS"; the draws are lent.
+#![tactic(auto)]
+
 ghost use Rattle.std.specs.Prelude.{◌≡◌, false, ◌+◌, ◌<◌, length, get_or};
 ghost use Rattle.scope.specs.Refusals.{first_of, wrong_layers};
 ghost use Rattle.scope.specs.Draws.{is_searched, is_odd, both_given, is_past, any_past, most_stored, source_tests};

@@ -1,5 +1,7 @@
 // Gain curves from likelihoods, and the permutation test of their maximum.
 // Entry points: whatever is passed in, each ends with an answer or with the number of a refusal, which has changed no lent memory. None has a `requires`.
+#![tactic(auto)]
+
 ghost use Rattle.std.specs.Prelude.{◌≡◌, [], ◌∷◌};
 ghost use Rattle.scope.specs.Calls.{permutation_answer};
 ghost use Rattle.control.specs.Settings.{shortest_of};
@@ -9,7 +11,7 @@ ghost use Rattle.entry_curves.specs.Left.{CurveLeft};
 use control::Shortest;
 
 // What a permutation test found.
-#[derive(Drop)]
+#[derive(Clone, Copy)]
 pub struct TestResult {
     pub counter: usize,
     pub p_value: f64,
@@ -17,7 +19,7 @@ pub struct TestResult {
 }
 
 // A test's result, or the refusal's number.
-#[derive(Drop)]
+#[derive(Clone, Copy)]
 pub enum Permuted {
     Tested(TestResult),
     Refused(u32),

@@ -1,6 +1,8 @@
 // Rows while the deck feeds: a run is opened, takes its cells in whatever lots arrive, and is closed. Its sheet is a tree over the sums that stand then
 // (crate `entry_tree`, `fed_tree`).
 // Entry points: whatever is passed in, each ends with an answer or with the number of a refusal, which has changed no lent memory. None has a `requires`.
+#![tactic(auto)]
+
 ghost use Rattle.std.specs.Prelude.{length};
 ghost use Rattle.feed.specs.States.{state_of};
 ghost use Rattle.entry_feed.specs.Left.{OpenLeft, FeedLeft, Closes};
@@ -8,7 +10,7 @@ ghost use Rattle.entry_feed.specs.Left.{OpenLeft, FeedLeft, Closes};
 use feed::State;
 
 // The state to go on with, or the refusal's number.
-#[derive(Drop)]
+#[derive(Clone, Copy)]
 pub enum Fed {
     State(State),
     Refused(u32),

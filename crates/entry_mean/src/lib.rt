@@ -1,5 +1,7 @@
 // From matrix to search: candidates, the gain of a split, the best split.
 // Entry points: whatever is passed in, each ends with an answer or with the number of a refusal, which has changed no lent memory. None has a `requires`.
+#![tactic(auto)]
+
 ghost use Rattle.std.specs.Prelude.{length};
 ghost use Rattle.control.specs.Settings.{shortest_of};
 ghost use Rattle.entry_mean.specs.Left.{CandidatesLeft, GainLeft, SearchLeft};
@@ -10,14 +12,14 @@ use optimizer::optimizer_result::BestSplit;
 use rows::Position;
 
 // How many entries of a lent slice were written, or the refusal's number.
-#[derive(Drop)]
+#[derive(Clone, Copy)]
 pub enum Count {
     Written(usize),
     Refused(u32),
 }
 
 // A gain, or the refusal's number.
-#[derive(Drop)]
+#[derive(Clone, Copy)]
 pub enum Gained {
     Of(f64),
     Refused(u32),

@@ -1,5 +1,7 @@
 // Nearest neighbours: each row's order of all rows, and the predictions for a segment.
 // Entry points: whatever is passed in, each ends with an answer or with the number of a refusal, which has changed no lent memory. None has a `requires`.
+#![tactic(auto)]
+
 mod refusals;
 
 ghost use Rattle.entry_neighbours.specs.Left.{OrderingLeft, PredictLeft};

@@ -1,5 +1,7 @@
 // Stored records: the searches of a run's stored segments, without a tree.
 // Entry points: whatever is passed in, each ends with an answer or with the number of a refusal, which has changed no lent memory. None has a `requires`.
+#![tactic(auto)]
+
 ghost use Rattle.control.specs.Settings.{shortest_of};
 ghost use Rattle.entry_segments.specs.Left.{StoredLeft};
 

@@ -1,5 +1,7 @@
 // The tree of a run: its node list, its records and its sheet; from its matrix, or from the sums that a fed run has left.
 // Entry points: whatever is passed in, each ends with an answer or with the number of a refusal, which has changed no lent memory. None has a `requires`.
+#![tactic(auto)]
+
 ghost use Rattle.control.specs.Settings.{settings_of};
 ghost use Rattle.feed.specs.States.{state_of};
 ghost use Rattle.entry_tree.specs.Left.{TreeLeft, FedLeft, PointsLeft};
@@ -14,7 +16,7 @@ use verdict::Asked;
 mod grow;
 
 // How many nodes, records and cuts were written, and how many of the records are the stored segments'; or the refusal's number.
-#[derive(Drop)]
+#[derive(Clone, Copy)]
 pub enum Grown {
     Counted(Counts, usize),
     Refused(u32),

@@ -1,5 +1,7 @@
 // The first step of a two-step search: guesses, and the pick from a lent gain curve.
 // Entry points: whatever is passed in, each ends with an answer or with the number of a refusal, which has changed no lent memory. None has a `requires`.
+#![tactic(auto)]
+
 ghost use Rattle.std.specs.Prelude.{◌≡◌};
 ghost use Rattle.scope.specs.Calls.{pick_answer, guesses_answer};
 ghost use Rattle.control.specs.Settings.{shortest_of};
@@ -12,7 +14,7 @@ use rows::Position;
 use two_step_search::Guesses;
 
 // One to three guesses, or the refusal's number.
-#[derive(Drop)]
+#[derive(Clone, Copy)]
 pub enum Guessed {
     Rows(Guesses),
     Refused(u32),

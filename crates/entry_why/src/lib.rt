@@ -1,5 +1,7 @@
 // Why a row is not on the sheet.
 // Entry points: whatever is passed in, each ends with an answer or with the number of a refusal, which has changed no lent memory. None has a `requires`.
+#![tactic(auto)]
+
 ghost use Rattle.std.specs.Prelude.{◌≡◌, ◌≤◌, length};
 ghost use Rattle.scope.specs.Why.{text_of, why_refusal};
 ghost use Rattle.control.specs.Settings.{settings_of};
@@ -13,7 +15,7 @@ use rows::Position;
 use verdict::Asked;
 
 // What is told of the row, and how many bytes of text go with it; or the refusal's number.
-#[derive(Drop)]
+#[derive(Clone, Copy)]
 pub enum Explained {
     Why(Why, usize),
     Refused(u32),

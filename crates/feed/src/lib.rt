@@ -1,11 +1,13 @@
 // A run that is being fed: its state, and what is refused of it, of a lot of cells and of closing. Inside the library.
+#![tactic(auto)]
+
 ghost use Rattle.std.specs.Prelude.{◌≡◌, [], ◌∷◌, ◌+◌, ◌*◌, ◌≤◌, ltb};
 ghost use Rattle.scope.specs.Refusals.{first_of};
 ghost use Rattle.scope.specs.Feed.{cells_in, no13, no14, open_refusal, feed_refusal, close_tests};
 ghost use Rattle.feed.specs.States.{state_of};
 
 // n rows of d columns, and how many of their cells were taken.
-#[derive(Drop)]
+#[derive(Clone, Copy)]
 pub struct State {
     pub n: usize,
     pub d: usize,

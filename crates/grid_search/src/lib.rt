@@ -1,4 +1,6 @@
 // The search over the candidates of a segment. Inside the library. After optimizer/grid_search.rs.
+#![tactic(auto)]
+
 ghost use Rattle.std.specs.Prelude.{◌≡◌, ◌+◌, ◌*◌, ◌≤◌, length};
 ghost use Rattle.scope.specs.Gain.{gain_of};
 ghost use Rattle.scope.specs.Grid.{best, blank, trials};

@@ -1,4 +1,6 @@
 // k nearest neighbours: the share of a row's k nearest that stand at or past a split. Inside the library. After classifier/knn.rs.
+#![tactic(auto)]
+
 ghost use Rattle.std.specs.Prelude.{◌≡◌, ◌-◌, ◌<◌, ◌≤◌, not, ◌&&◌, leb, ltb, eqb, length};
 ghost use Rattle.scope.specs.Rounding.{whole_root};
 ghost use Rattle.scope.specs.Lists.{holding, select};

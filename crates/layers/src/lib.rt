@@ -1,4 +1,6 @@
 // The layers of seeded segments: how many segments a layer has, and where each starts and stops. Inside the library. After segmentation.rs.
+#![tactic(auto)]
+
 ghost use Rattle.std.specs.Prelude.{◌≡◌, true, false, ◌+◌, ◌<◌, ◌≤◌, min};
 ghost use Rattle.scope.specs.Refusals.{is_layer, wrong_layers};
 ghost use Rattle.scope.specs.Rounding.{to_f32, truncation, ceiling};
@@ -15,7 +17,7 @@ pub const MOST_LAYERS: usize = 64;
 const LEAST: f64 = 0.000244140625;
 
 // A layer of a run of n rows, worked out once for all its segments.
-#[derive(Drop)]
+#[derive(Clone, Copy)]
 pub struct Layer {
     pub n: usize,
     pub value: f64,

@@ -1,4 +1,6 @@
 // The refusals that a deck earns by the program's limits: numbers 1 to 5, the lowest that applies; and what its run is asked with. Inside the library.
+#![tactic(auto)]
+
 ghost use Rattle.std.specs.Prelude.{◌≡◌, false, ◌*◌, ◌≤◌, length};
 ghost use Rattle.std.specs.Float.{binary64};
 ghost use Rattle.std.specs.Float.Ieee.{of_bits, is_nan};

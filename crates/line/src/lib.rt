@@ -1,5 +1,7 @@
 // A line of the input, field by field: which field comes next, what the fields so far have given, and what is stored of them.
 // Inside the library. A function follows its definition of specs/Walk.antt; proofs/ shows that a line comes to what the definitions read in it.
+#![tactic(auto)]
+
 ghost use Rattle.std.specs.Prelude.{◌≡◌, ◌<◌, slice_set};
 ghost use Rattle.token.specs.Walk.{as_plain, as_number, as_cell, as_bits};
 ghost use Rattle.token.specs.declared.Hex.{Hex};
@@ -25,7 +27,7 @@ pub const BARRED: usize = 2 * MOST_PAIRS;
 const MOST_IN_ROW: usize = 64;
 
 // A number of a `cfg` or a `no` line. The second of a pair comes after a.
-#[derive(Drop)]
+#[derive(Clone, Copy)]
 pub enum Number {
     N,
     D,
@@ -35,7 +37,7 @@ pub enum Number {
 }
 
 // What comes next in a line.
-#[derive(Drop)]
+#[derive(Clone, Copy)]
 pub enum Place {
     Word,
     Number(Number),
@@ -52,7 +54,7 @@ pub enum Place {
 }
 
 // What the lines so far have given. The pairs are counted up to 65 and the cells up to 2,049; wide says whether a cell is outside -32768 to 32767.
-#[derive(Drop)]
+#[derive(Clone, Copy)]
 pub struct Given {
     pub n: usize,
     pub d: usize,
@@ -64,7 +66,7 @@ pub struct Given {
 }
 
 // What a field gives to the lent slices: a cell, or a pair a and b, after so many others.
-#[derive(Drop)]
+#[derive(Clone, Copy)]
 pub enum Event {
     Nothing,
     Cell(usize, f64),
@@ -72,7 +74,7 @@ pub enum Event {
 }
 
 // After a field.
-#[derive(Drop)]
+#[derive(Clone, Copy)]
 pub struct Ended {
     pub place: Place,
     pub given: Given,

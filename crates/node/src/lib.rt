@@ -1,4 +1,6 @@
 // A node of the tree, and the lent list of nodes: plain data, so that one growth serves Rattle callers and C hosts.
+#![tactic(auto)]
+
 ghost use Rattle.std.specs.Prelude.{◌≡◌, ◌<◌, length, get_or, set};
 ghost use Rattle.std.proofs.Math.Option.{none, some};
 ghost use Rattle.optimizer.specs.Records.{to_record};
@@ -9,7 +11,7 @@ use rows::Position;
 
 // A gain record in plain numbers: its origin by kind, 0 direct, 1 layer, 2 draw, and number.
 #[repr(C)]
-#[derive(Drop)]
+#[derive(Clone, Copy)]
 pub struct Choice {
     pub start: Position,
     pub stop: Position,
@@ -21,7 +23,7 @@ pub struct Choice {
 
 // A segment, whether it is cut, its choice (all zero where there is none), and the places of its parts (0 and 0 for a leaf).
 #[repr(C)]
-#[derive(Drop)]
+#[derive(Clone, Copy)]
 pub struct Node {
     pub start: Position,
     pub stop: Position,

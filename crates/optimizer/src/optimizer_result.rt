@@ -11,7 +11,7 @@ ghost use Rattle.optimizer.specs.Records.{to_origin, to_record, tried, guessed, 
 use rows::Position;
 
 // Where a record comes from: the search of a segment that the tree grows by; a layer, by its number from 1; or a draw, by its place in the list of draws, from 0.
-#[derive(Drop)]
+#[derive(Clone, Copy)]
 pub enum Origin {
     Direct,
     Layer(usize),
@@ -19,7 +19,7 @@ pub enum Origin {
 }
 
 // The best split of [start, stop) and its gain, and where the record comes from.
-#[derive(Drop)]
+#[derive(Clone, Copy)]
 pub struct GainRecord {
     pub start: Position,
     pub stop: Position,
@@ -29,14 +29,14 @@ pub struct GainRecord {
 }
 
 // A search answers with a split and its gain, or with the number of a refusal.
-#[derive(Drop)]
+#[derive(Clone, Copy)]
 pub enum BestSplit {
     Found(Position, f64),
     Refused(u32),
 }
 
 // What a search hands on inside the library, to the tree and to the stored records: its record, or the number of a refusal.
-#[derive(Drop)]
+#[derive(Clone, Copy)]
 pub enum Searched {
     Record(GainRecord),
     Refused(u32),

@@ -1,5 +1,7 @@
 // One row's order: all rows by distance, equal ones by lower index. A stable merge sort; it works in as much room again as it fills.
 // Inside the library. After classifier/knn.rs, which leaves the order of equal ones open.
+#![tactic(auto)]
+
 ghost use Rattle.std.specs.Prelude.{◌≡◌, cond, ◌+◌, ◌<◌, ◌≤◌, length, get_or, drop};
 ghost use Rattle.scope.specs.Neighbours.{is_nearer, insert, ordered};
 ghost use Rattle.order.specs.Rows.{merged, Below, Measured, Numeric, Halves};
@@ -45,7 +47,7 @@ fn sort_few(ds: &[f64], lo: usize, out: &mut [u32])
 }
 
 // A row of each of two lists, by distance; of equal ones the first list's is the near one.
-#[derive(Drop)]
+#[derive(Clone, Copy)]
 struct Compared {
     near: u32,
     far: u32,

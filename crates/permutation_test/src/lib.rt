@@ -1,4 +1,6 @@
 // The permutation test of a curve's maximum. Inside the library. After document 01, "Permutation count", and classifier_gain.rs.
+#![tactic(auto)]
+
 ghost use Rattle.std.specs.Prelude.{◌≡◌, true, false, ◌+◌, ◌-◌, ◌*◌, ◌<◌, ◌≤◌, ltb, length};
 ghost use Rattle.scope.specs.Lists.{every};
 ghost use Rattle.scope.specs.Permutations.{wrong_permutations, add_deltas, added, reached, reaches, exceeds, counter, p_value, is_significant};
@@ -9,7 +11,7 @@ ghost use Rattle.classifier_gain.specs.Lent.{lent, Curves};
 use control::Shortest;
 
 // A sum for each curve.
-#[derive(Drop)]
+#[derive(Clone, Copy)]
 struct Sums(f64, f64, f64);
 
 // Each curve's delta of the index i, added to that curve's sum.

@@ -1,4 +1,6 @@
 // Whether lists are permutations: "only a true one is accepted". Inside the library. After document 01, refusal 11.
+#![tactic(auto)]
+
 ghost use Rattle.std.specs.Prelude.{◌≡◌, ◌-◌, ◌*◌, ◌%◌, ◌<◌, ◌≤◌, false, not, length};
 ghost use Rattle.scope.specs.Permutations.{wrong_permutations};
 ghost use Rattle.permutations.specs.Marks.{is_marked, with_mark, Unmarked, Serves, shows_wrong, with_value, Passed, PassedAll, all_true};

@@ -1,5 +1,7 @@
 // A call for the tree, up to its growing: judged, and where nothing is refused the prefix sums and the stored segments' records stored. What any run is
 // refused for first stands here as well. Inside the library.
+#![tactic(auto)]
+
 ghost use Rattle.std.specs.Prelude.{◌≡◌, false, ◌≤◌};
 ghost use Rattle.scope.specs.Refusals.{first_of, wrong_layers};
 ghost use Rattle.scope.specs.Calls.{run_tests, room_tests, tree_refusal};
@@ -103,7 +105,7 @@ pub fn tree_refusal(
 }
 
 // How many prefix sums there are, and how many records the stored segments left; or the refusal's number.
-#[derive(Drop)]
+#[derive(Clone, Copy)]
 pub enum Prepared {
     Stored(usize, usize),
     Refused(u32),

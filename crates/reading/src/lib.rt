@@ -1,6 +1,8 @@
 // Standard input, read and fed to `deck`. Its first bytes are kept in a lent buffer, more of them than a deck that has a sheet can have, so that contracts can
 // name them; what is longer is read in lots. Inside the library.
 // That the bytes which `libc::read` stores are the input's, one call after another, no contract says: `keep` and `read_lot` are to be read.
+#![tactic(auto)]
+
 ghost use Rattle.std.specs.Prelude.{◌≤◌, length};
 ghost use Rattle.reading.specs.Taken.{Filled, Fetched, Rested, Taken};
 
@@ -16,14 +18,14 @@ pub const KEPT: usize = 65536;
 const TURNS: u64 = 0x8000_0000_0000;
 
 // How many bytes of the input stand in the buffer: all of them, if they don't fill it.
-#[derive(Drop)]
+#[derive(Clone, Copy)]
 enum First {
     Bytes(usize),
     Failed,
 }
 
 // One read: the state after its bytes, the input's end, or a read that failed.
-#[derive(Drop)]
+#[derive(Clone, Copy)]
 enum Lot {
     More(State),
     Ended,
@@ -31,7 +33,7 @@ enum Lot {
 }
 
 // The whole input.
-#[derive(Drop)]
+#[derive(Clone, Copy)]
 pub enum Input {
     Read(Read),
     Failed,

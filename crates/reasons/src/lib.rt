@@ -1,5 +1,7 @@
 // Why a row is not on the sheet: what is told of it, and the walk from the whole run down to the segment that it is told of. Inside the library.
 // proofs/ shows that it is what the definitions tell, and crates/demand that this is so of the data.
+#![tactic(auto)]
+
 ghost use Rattle.std.specs.Prelude.{◌≡◌, ◌&&◌, ◌+◌, ◌<◌, ◌≤◌, ltb, leb, length};
 ghost use Rattle.scope.specs.Why.{is_near, first_barring, by_gain, reason_in};
 ghost use Rattle.rows.specs.Segments.{to_segment};
@@ -15,7 +17,7 @@ use verdict::{Asked, Verdict};
 
 // What is told of a row, each with the segment that it is told of: it is the cut of that reached segment, by a record of this origin; or, of the uncut one that
 // holds it, the first that applies. A row is barred by the first listed pair that bars it, and a gain is the row's own in that segment.
-#[derive(Drop)]
+#[derive(Clone, Copy)]
 pub enum Why {
     Cut(Segment, Origin),
     TooNear(Segment),
@@ -25,7 +27,7 @@ pub enum Why {
 }
 
 // The pair (a, b) that bars a row, or none.
-#[derive(Drop)]
+#[derive(Clone, Copy)]
 pub enum Barring {
     By(usize, usize),
     Free,

@@ -1,5 +1,7 @@
 // The lines that the programs write, and their parts, into a lent slice from a position on; each function answers the position behind what it wrote.
 // Inside the library. A line of the sheet's program has at most 111 bytes: that is the room that each asks.
+#![tactic(auto)]
+
 ghost use Rattle.std.specs.Prelude.{◌≡◌, [], ◌∷◌, ◌++◌, ◌+◌, ◌≤◌, ◌<◌, length};
 ghost use Rattle.std.specs.Float.{binary64};
 ghost use Rattle.std.specs.Float.Ieee.{to_bits};

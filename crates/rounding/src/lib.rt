@@ -1,5 +1,7 @@
 // Inside the library: truncation and ceiling to a whole number, f64 to the nearest f32, and the whole square root.
 // After document 01, "Rounding helpers", and "Counts" for the root. Assumes nothing.
+#![tactic(auto)]
+
 
 // narrow is narrow.rt: the nearest f32 of an f64 above zero, by bit patterns.
 mod narrow;

@@ -1,18 +1,20 @@
 // A row's position in the run and its offset in a segment, two counts that are never handed for one another.
 // They are converted only through the segment's start. After document 01, "separate counts". Laws on lists that loops share: proofs/Stored.antt, proofs/Pairs.antt.
+#![tactic(auto)]
+
 ghost use Rattle.std.specs.Prelude.{◌≡◌, ◌+◌, ◌-◌, ◌<◌, ◌≤◌, ◌^◌};
 
 // A row's position in the run.
 #[repr(C)]
-#[derive(Drop)]
+#[derive(Clone, Copy)]
 pub struct Position(pub usize);
 
 // A row's offset in a segment.
-#[derive(Drop)]
+#[derive(Clone, Copy)]
 pub struct Offset(pub usize);
 
 // A segment of the run: the rows from start to the one before stop.
-#[derive(Drop)]
+#[derive(Clone, Copy)]
 pub struct Segment {
     pub start: Position,
     pub stop: Position,

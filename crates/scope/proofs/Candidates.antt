@@ -38,10 +38,13 @@ pub not_outside : (most v : ℕ) → outside most v ≡ false → (1 ≤ v) × (
 unfolding outside
 not_outside most v h = let (a, b) = or_false (ltb v 1) (ltb most v) h in (ltb-false v 1 a, ltb-false most v b)
 
-pub free_of : (ps : List ℕ) (x : ℕ) → is_barred ps x ≡ false → (a b : ℕ) → Pair a b ps → a < x → x ≤ b → ⊥
+free_at : (a b x : ℕ) (ps : List ℕ) → Pair a b ps → is_barred ps x ≡ false → a < x → x ≤ b → ⊥
 unfolding is_barred
-free_of ps x f a b (here {ps = qs}) l u = true≢false (sym (rw (lt-ltb a x l, le-leb x b u)) ∙ f)
-free_of ps x f a b (later {c = c} {d = d} {ps = qs} p) l u = free_of qs x (or_false (ltb c x && leb x d) (is_barred qs x) f).1 a b p l u
+free_at a b x ps (here {ps = qs}) f l u = true≢false (sym (rw (lt-ltb a x l, le-leb x b u)) ∙ f)
+free_at a b x ps (later {c = c} {d = d} {ps = qs} p) f l u = free_at a b x qs p (or_false (ltb c x && leb x d) (is_barred qs x) f).1 l u
+
+pub free_of : (ps : List ℕ) (x : ℕ) → is_barred ps x ≡ false → (a b : ℕ) → Pair a b ps → a < x → x ≤ b → ⊥
+free_of ps x f a b p l u = free_at a b x ps p f l u
 
 pub barred_not : (ps : List ℕ) (x : ℕ) → ((a b : ℕ) → Pair a b ps → a < x → x ≤ b → ⊥) → is_barred ps x ≡ false
 unfolding is_barred

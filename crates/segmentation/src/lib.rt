@@ -1,5 +1,7 @@
 // The segments that are searched before a tree is grown, of layers or of draws: their records, in order, in lent memory. Inside the library.
 // After segmentation.rs, "SBS" and "WBS"; neither layers nor draws means "BS".
+#![tactic(auto)]
+
 ghost use Rattle.std.specs.Prelude.{◌≡◌, false, map, ◌+◌, ◌*◌, ◌<◌, ◌≤◌, length};
 ghost use Rattle.scope.specs.Refusals.{wrong_layers};
 ghost use Rattle.scope.specs.Origin.{layer as of_layer, draw as of_draw};

@@ -2,6 +2,8 @@
 // It only reads, calls and writes. `run` says that its text is the program's (crates/scope/specs/Program.antt) for the bytes that stand in `kept`, or, where the
 // input is longer than that, for those and some behind them. That they are the input's, and that its text is what is written, no contract can say: both are to be
 // read, here and in crates/reading. Nor can a program set its exit status: where it can't read or write it says so on standard error, and it writes no other sheet.
+#![tactic(auto)]
+
 ghost use Rattle.std.specs.Prelude.{◌≤◌, length, take};
 ghost use Rattle.demand.specs.Printed.{Answers};
 ghost use Rattle.reading.specs.Told.{Told};

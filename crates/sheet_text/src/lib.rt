@@ -1,5 +1,7 @@
 // The sheet's text: how many cuts, a line for each, how many nodes. Inside the library.
 // A run without stored segments chooses direct records alone, so a cut's record is the first one made that splits there (proofs/Lookup.antt).
+#![tactic(auto)]
+
 ghost use Rattle.std.specs.Prelude.{◌≡◌, ◌+◌, ◌*◌, ◌≤◌, length, take};
 ghost use Rattle.stored.specs.Flat.{records_in};
 ghost use Rattle.report.specs.Fields.{line_room};
@@ -12,7 +14,7 @@ use rows::Position;
 use stored::records;
 
 // What a look among records gives.
-#[derive(Drop)]
+#[derive(Clone, Copy)]
 enum Found {
     Record(GainRecord),
     Nothing,

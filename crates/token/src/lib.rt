@@ -1,11 +1,13 @@
 // One field of a line, byte by byte: as a word, as a number or a cell, as a threshold. Inside the library.
 // A function follows its definition of specs/Walk.antt; proofs/ has what the walks come to.
+#![tactic(auto)]
+
 ghost use Rattle.std.specs.Prelude.{◌≡◌, ◌<◌};
 ghost use Rattle.token.specs.Walk.{first_letter, awaited as Walk·awaited, word_more, value_more, digit_of, digit_more, first_of_cell, cell_more, hex_digit, place_more, hex_more, fresh as Walk·fresh, token_more, as_number};
 ghost use Rattle.scope.specs.Text.{number};
 
 // What the bytes so far are: nothing, a word of the program, the start of one, or neither.
-#[derive(Drop)]
+#[derive(Clone, Copy)]
 pub enum Word {
     Empty,
     C,
@@ -61,7 +63,7 @@ fn word_more(w: Word, b: u8) -> Word
 }
 
 // A number's digits so far: none, those of a value, or no number.
-#[derive(Drop)]
+#[derive(Clone, Copy)]
 pub enum Digits {
     Empty,
     Value(usize),
@@ -120,7 +122,7 @@ pub fn number_of(field: &[u8]) -> Digits
 }
 
 // A cell so far: nothing, a number, or what follows a minus.
-#[derive(Drop)]
+#[derive(Clone, Copy)]
 pub enum Cell {
     Empty,
     Plain(Digits),
@@ -147,7 +149,7 @@ fn cell_more(c: Cell, b: u8) -> Cell
 }
 
 // A threshold so far: the number of its digits and the bits that they give, or no threshold.
-#[derive(Drop)]
+#[derive(Clone, Copy)]
 pub enum Hex {
     Places(u64, u64),
     Wrong,
@@ -198,7 +200,7 @@ fn hex_more(h: Hex, b: u8) -> Hex
 }
 
 // A field so far, as each of the things that a field may be.
-#[derive(Drop)]
+#[derive(Clone, Copy)]
 pub struct Token {
     pub word: Word,
     pub cell: Cell,

@@ -1,4 +1,6 @@
 // How an answer reaches a host: what is stored through lent places. Inside the library.
+#![tactic(auto)]
+
 ghost use Rattle.std.specs.Prelude.{◌≡◌, ◌≤◌, get_or, set};
 ghost use Rattle.std.proofs.Math.ListN as ListN;
 ghost use Rattle.scope.specs.Why.{text_of};

@@ -1,4 +1,6 @@
 // The pick of a split from a lent gain curve, and the guesses that curves are made from. Inside the library. After optimizer/two_step_search.rs.
+#![tactic(auto)]
+
 ghost use Rattle.std.specs.Prelude.{◌≡◌, cond, [], ◌∷◌, ◌++◌, ◌+◌, ◌-◌, ◌*◌, ◌<◌, ◌≤◌, length, get_or};
 ghost use Rattle.std.proofs.Math.Option.{some, none};
 ghost use Rattle.scope.specs.Candidates.{candidates as candidatesOf};
@@ -73,7 +75,7 @@ pub fn single_find_best_split(
 }
 
 // One to three guesses, by value; what lies beyond the count repeats the last.
-#[derive(Drop)]
+#[derive(Clone, Copy)]
 pub struct Guesses {
     pub count: usize,
     pub first: Position,

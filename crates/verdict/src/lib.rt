@@ -1,5 +1,7 @@
 // What becomes of a segment: it is searched, and its choice is judged. Inside the library. After binary_segmentation.rs and model_selection.rs.
 // The tree grows by it, and by it a row's segment is looked for. Assumes nothing.
+#![tactic(auto)]
+
 ghost use Rattle.std.specs.Prelude.{◌*◌, ◌≤◌, length};
 ghost use Rattle.stored.specs.Flat.{records_in};
 ghost use Rattle.verdict.specs.Rules.{over, Sized, Rules};
@@ -10,14 +12,14 @@ use rows::Position;
 use stored::choice;
 
 // What every segment is asked with: how many columns there are, and the run's settings.
-#[derive(Drop)]
+#[derive(Clone, Copy)]
 pub struct Asked {
     pub d: usize,
     pub settings: Settings,
 }
 
 // A segment once it is judged: it has no candidate, and so no record; or its direct record, and its choice, which does not cut it or does.
-#[derive(Drop)]
+#[derive(Clone, Copy)]
 pub enum Verdict {
     WithoutChoice,
     Uncut(GainRecord, GainRecord),

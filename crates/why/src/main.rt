@@ -4,6 +4,8 @@
 // that they ask and the bytes that stand in `kept`, or, where the input is longer than that, for those and some behind them. That the argument's bytes are those of
 // the one argument, that `kept` has the input's, and that the text is what is written, no contract can say: this is to be read, here and in crates/reading. Nor can
 // a program set its exit status: where it is asked no row, or can't read or write, it says so on standard error, and it writes no other line.
+#![tactic(auto)]
+
 ghost use Rattle.std.specs.Prelude.{◌≡◌, [], ◌∷◌, ◌≤◌, length, take};
 ghost use Rattle.scope.specs.WhyText.{row_asked};
 ghost use Rattle.demand.specs.Printed.{AnswersWhy};
@@ -22,7 +24,7 @@ use why_answers::TEXT;
 const MOST_DIGITS: usize = 10;
 
 // What the arguments ask.
-#[derive(Drop)]
+#[derive(Clone, Copy)]
 enum Asked {
     Row(Position),
     Nothing,
@@ -55,7 +57,7 @@ fn answer_row(row: Position, kept: &mut [u8], out: &mut [u8; TEXT]) -> usize
 }
 
 // The argument asks no row, or so many bytes are the text for the row that it asks.
-#[derive(Drop)]
+#[derive(Clone, Copy)]
 enum Ran {
     NoRow,
     Text(usize),

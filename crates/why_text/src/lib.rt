@@ -1,5 +1,7 @@
 // The line that tells why a row is not on the sheet, into a lent slice from a position on; each function answers the position behind what it wrote.
 // Inside the library. A line has at most 112 bytes.
+#![tactic(auto)]
+
 ghost use Rattle.std.specs.Prelude.{[], ◌∷◌, ◌++◌, ◌+◌, ◌≤◌, length};
 ghost use Rattle.scope.specs.Text.{bytes, decimal, line};
 ghost use Rattle.scope.specs.Origin.{origin_text};
