@@ -8,8 +8,7 @@ use lib.Dec.{ltb, leb}
 use Rattle.scope.specs.Asked.{one_more}
 use Rattle.control.specs.Settings.{shortest_of}
 use borrow.Author.Rules.{rules}
-use Rattle.control.proofs.Shortest.too_long_for.Statement.{statement}
-use Rattle.control.proofs.Shortest.too_long_for.Tie as tie
+use Rattle.control.proofs.Shortest.too_long_for.Goals as goal
 
 same_test : (rows least more twice : ℕ) → least + more ≡ twice + 1 → ltb rows least ≡ leb (rows + more) twice
 same_test rows least more twice e = go (ltb rows least) refl
@@ -18,8 +17,5 @@ same_test rows least more twice e = go (ltb rows least) refl
     go true h = sym (le-leb (rows + more) twice (omega (arith, ltb-true rows least h)))
     go false h = sym (lt-leb (rows + more) twice (omega (arith, ltb-false rows least h)))
 
-returns : tie.Need-returns
-returns c = let a = c.before.args in same_test a.rows c.fewest-rows.result (one_more (shortest_of a.self)) (2 * a.self.m) c.fewest-rows.ensures
-
-pub too-long-for-spec : {M : Type 1} → statement M
-too-long-for-spec = tie.close (tie.spec (λ c κs. search rules) returns)
+pub returns : goal.returns
+returns c = let a = c.args in same_test a.rows c.fewest_rows.result (one_more (shortest_of a.self)) (2 * a.self.m) c.fewest_rows.ensures
