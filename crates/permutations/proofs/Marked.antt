@@ -76,7 +76,7 @@ module _ (L low high : ℕ) (permutation : List ℕ) (i : ℕ) (h : i < length p
 
   pub inside_more : shows_wrong L low high (get_or permutation i 0) marks ≡ false → every (λ v. ltb v L) (take i permutation) ≡ true → every (λ v. ltb v L) (take (i + 1) permutation) ≡ true
   unfolding every
-  inside_more n e = rw (add-one, take-suc permutation i 0, every_append, e, every, lt-ltb (get_or permutation i 0) L (in_range_lem L low high (get_or permutation i 0) marks (take i permutation) m s n))
+  inside_more n e = rw (add-one, take-suc permutation i 0, every_append, e, lt-ltb (get_or permutation i 0) L (in_range_lem L low high (get_or permutation i 0) marks (take i permutation) m s n))
 
   pub shown_wrong : shows_wrong L low high (get_or permutation i 0) marks ≡ true → is_permutation L permutation ≡ false
   unfolding counted

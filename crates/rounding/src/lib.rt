@@ -2,7 +2,6 @@
 // After document 01, "Rounding helpers", and "Counts" for the root. Assumes nothing.
 #![tactic(auto)]
 
-
 // narrow is narrow.rt: the nearest f32 of an f64 above zero, by bit patterns.
 mod narrow;
 
