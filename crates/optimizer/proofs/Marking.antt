@@ -48,7 +48,7 @@ mark_next marks before a x y l h e = go (eqb y (x + 1)) refl
         rw (same, get_or-set_same marks (x + 1) true false h, lt-ltb a (x + 1) (omega arith), le-leb (x + 1) (x + 1) (omega arith))
     go false i =
         let other = eqb-false y (x + 1) i in
-        get_or-set_other marks (x + 1) y true false (λ k. other (sym k)) ∙ e ∙ ap (λ (t : Bool). t || mark_at before y) (bars_same a x (x + 1) y (λ _ k. omega arith) (λ _ k. omega (arith, other)))
+        get_or-set_other marks (x + 1) y true false other ∙ e ∙ ap (λ (t : Bool). t || mark_at before y) (bars_same a x (x + 1) y (λ _ k. omega arith) (λ _ k. omega (arith, other)))
 
 -- none but a's own row is passed: nothing is marked yet
 pub mark_first : (marks : List Bool) (a y : ℕ) → mark_at marks y ≡ bars a a y || mark_at marks y
