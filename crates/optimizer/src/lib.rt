@@ -2,5 +2,4 @@
 #![tactic(auto)]
 
 pub mod candidates;
-pub mod marks;
 pub mod optimizer_result;
