@@ -1,0 +1,10 @@
+-- `Layer::stop` meets its contract: the lesser of the two.
+use native.Mathlib.Omega.{arith}
+use Rattle.rounding.proofs.Layers.{layer_length_ceiling}
+use borrow.Author.Rules.{rules}
+use Rattle.layers.proofs.Layer.stop.Goals as goal
+
+pub position_from-stop-requires : goal.position_from-stop-requires
+position_from-stop-requires c =
+    let l = c.requires.0 in
+    omega (arith, l.long, layer_length_ceiling c.args.self.value l.is_layer_lem c.args.self.n l.rows)

@@ -1,0 +1,6 @@
+-- `record_at` meets its contract: the two numbers say which origin.
+use borrow.Author.Rules.{rules}
+use Rattle.stored.proofs.records.record_at.Goals as goal
+
+pub returns : goal.returns
+returns c = rw c.of-origin.ensures

@@ -1,8 +1,0 @@
--- `value_more` meets its contract: test by test.
-use borrow.Author.Rules.{rules}
-use Rattle.token.proofs.Tested.{tested}
-use Rattle.token.proofs.value_more.Statement.{statement}
-use Rattle.token.proofs.value_more.Tie as tie
-
-pub value-more-spec : {M : Type 1} → statement M
-value-more-spec = tie.close (tie.spec (λ c. search (rules, tested)) (λ c. search (rules, tested)) (λ c. search rules) (λ c. search rules) (λ c. search (rules, tested)))
