@@ -2,4 +2,5 @@
 #![tactic(auto)]
 
 pub mod candidates;
+pub mod marks;
 pub mod optimizer_result;
