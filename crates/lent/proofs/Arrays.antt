@@ -9,7 +9,7 @@ use Prim.Native.Nat.{ℕ, zero, suc}
 use mathlib.Core.Option.{some}
 use mathlib.Core.List.{List, [], ◌∷◌, ◌++◌}
 use seplogic.Ra.Ura.{Ura}
-use seplogic.Ra.TreeShare.{full_share}
+use base.Fraction.{full_share}
 use lib.ListN.{length, replicate, length-replicate}
 use mir.Syntax.{Mutability, Lifetime, erased, Ty, ty_ref, ty_array, place, Opd as Operand, addr_of, repeat, Body, seq, assign, Local}
 use mir.Val.{Val, vptr}
@@ -115,7 +115,7 @@ module _ {M : Type 1} {𝓤 : Ura M} (𝓛 : Logic 𝓤) (D : Datum) (n b : ℕ)
   back ν γ l =
       let R = D.row in
       let s = whole n b ν γ l in
-      qed 𝓛 (‵ (flft (ν ∷ []) full_share) ∷ ‵ (Kept ν γ) ∷ ‵ (slice 𝓛 R s) ∷ []) ∵ updating ! $ lft_end ! tt $ move ! (2 ∷ []) $ use1 𝓛 (‵ (last_is R γ l l)) (says_list 𝓛 R s l refl) $ fsplit ! $ move ! (2 ∷ 3 ∷ 0 ∷ []) $
+      qed 𝓛 (‵ (flft (ν ∷ []) full_share) ∷ ‵ (Kept ν γ) ∷ ‵ (slice 𝓛 R s) ∷ []) ∵ updating ! $ lft_end ! tt $ move ! (2 ∷ []) $ use1 𝓛 (‵ (last_is R (ν ∷ []) b zero γ l l)) (says_list 𝓛 R s l refl) $ fsplit ! $ move ! (1 ∷ []) $ drop ! $ fsplit ! $ move ! (2 ∷ 3 ∷ 0 ∷ []) $
       use3 𝓛 (later (‵ ((Arr (mem R) n).own_at l b zero))) (slice_back 𝓛 R (ν ∷ []) γ l n b zero) $ await ! tt $ use1 𝓛 (Again l) (gathered l) $ at_once ! $ move ! (1 ∷ []) $ drop ! $ done !
 
 -- ---- in a walk

@@ -11,7 +11,7 @@ use mathlib.Core.Option.{some}
 use mathlib.Core.List.{List, [], ◌∷◌, ◌++◌, append_assoc}
 use seplogic.Ra.Ura.{Ura}
 use lib.Dec.{T}
-use mir.Syntax.{Name, place, Ty, Opd as Operand, Body, seq, call, Local}
+use mir.Syntax.{Callee, place, Ty, Opd as Operand, Body, seq, call, Local}
 use mir.Val.{Val, vptr, WT, has_ty}
 use base.Logic.{SProp, ent, sep, emp, id⊢, via, emp∗, comm∗, mono_l, mono_r}
 use prog.Wp.{Calls, Loops}
@@ -158,7 +158,7 @@ module _ {M : Type 1} {𝓤 : Ura M} (𝓛 : Logic 𝓤) (D : Deal) (xs : Args D
         → Seq K 𝓛 (raw (post fr w) ∷ (kept 𝓛 ks xs fr ++ (upto n Δ ++ (Z n Δ ++ Cs)))) (goal w)
     come_back goal so fr w k = ended good holds-φ (upto n Δ ++ (Z n Δ ++ Cs)) goal t so fr w (λ r ws ret. by t (via 𝓤 _ (puts_back 𝓛 (upto n Δ) (holds 𝓛 ks (changed ks xs ws)) (Z n Δ) Cs) (k r ws ret).prf))
 
-  module _ (good : Goods ks xs) (holds-φ : φ) {K : Type 0} {C : Calls 𝓤 H} {Λ : Loops 𝓤 H} {ls : List Local} {pl : Places ls} {Kf : Val → SProp 𝓤} {Δ : List (Item 𝓤)} {vs : List Slot} {bs : List Body} {rest : Body} {f : Name} {ops : List Operand} {d : ℕ} {τ : Ty} where
+  module _ (good : Goods ks xs) (holds-φ : φ) {K : Type 0} {C : Calls 𝓤 H} {Λ : Loops 𝓤 H} {ls : List Local} {pl : Places ls} {Kf : Val → SProp 𝓤} {Δ : List (Item 𝓤)} {vs : List Slot} {bs : List Body} {rest : Body} {f : Callee} {ops : List Operand} {d : ℕ} {τ : Ty} where
     pub calls : K → (n : ℕ) → Δ ≡ Before n Δ → FmC 𝓤 H 𝓛.laws C → ((fr : Fresh ks) → ent 𝓤 (pre fr) (C f (values ks xs) (post fr))) → operands ls vs ops ≡ some (values ks xs) → free_at ls vs d ≡ some τ → res.row.mir ≡ τ ∷ []
         → ((r : res.row.Denot) (ws : Lasts ks xs) → Returned r ws → Walk K 𝓛 C Λ ls pl Kf (After n Δ ws) (holding d (res.mach r) vs) bs rest) → Walk K 𝓛 C Λ ls pl Kf Δ vs bs (seq (call f ops (place d [])) rest)
     calls t n e fm met os g m k = record {

@@ -9,7 +9,7 @@ use mathlib.Core.List.{List, [], ◌∷◌, ◌++◌}
 use lib.ListN.{length, take, drop as after}
 use lib.Seq.{length-take-le}
 use seplogic.Ra.Ura.{Ura}
-use seplogic.Ra.TreeShare.{full_share}
+use base.Fraction.{full_share}
 use mir.Syntax.{erased, Body, Local}
 use mir.Val.{Val}
 use base.Logic.{SProp, ent, sep}
@@ -36,7 +36,7 @@ front_of a k ν δ = record { κ = ν ∷ []; q = full_share; γ = δ; b = a.b; 
 pub front_good : (R : RattleType) (a : Unique R.Denot) (k ν : ℕ) (δ : GName) → k ≤ length a.list → Good (unique R) a → Good (unique R) (front_of a k ν δ)
 front_good R a k ν δ few good =
     let long = length-take-le k a.list few in
-    (long, rw long at (first_good R a k ν δ good))
+    (long, rw long at (first_good R a k ν good))
 
 abbrev pub back_at : {X : Type 0} → Unique X → ℕ → List X → Unique X
 back_at a k l = at_list a (l ++ after k a.list)
@@ -61,7 +61,7 @@ module _ {M : Type 1} {𝓤 : Ura M} (𝓛 : Logic 𝓤) (R : RattleType) (a : U
       at_once ! $ show ! (λ (δ : GName). mean 𝓛 (‵ (slice 𝓛 R (front_of a k ν δ)) ⊛ ‵ (kept_of R a k ν δ))) δ $ done !)
 
   abbrev Whole : List X → Item 𝓤
-  Whole l = given (length l ≡ length (take k a.list)) (‵ (slice 𝓛 R (back_at a k l)) ⊛ ‵ (flft a.κ a.q))
+  Whole l = given (length l ≡ length (take k a.list)) (‵ (slice 𝓛 R (at_list a (l ++ after k a.list))) ⊛ ‵ (flft a.κ a.q))
 
   -- as many as they were, and the others: as many as the whole
   same : (l : List X) → length l ≡ length (take k a.list) → length a.list ≡ a.m → length (l ++ after k a.list) ≡ a.m
@@ -70,7 +70,7 @@ module _ {M : Type 1} {𝓤 : Ura M} (𝓛 : Logic 𝓤) (R : RattleType) (a : U
   back : (δ : GName) (l : List X) → length a.list ≡ a.m → ent 𝓤 (sep 𝓤 (A.lft (ν ∷ []) full_share) (sep 𝓤 (sem 𝓛 (kept_of R a k ν δ)) (sem 𝓛 (slice 𝓛 R (at_list (front_of a k ν δ) l))))) (H.⇛ (mean 𝓛 (Whole l)))
   back δ l long =
       let s = at_list (front_of a k ν δ) l in
-      qed 𝓛 (‵ (flft (ν ∷ []) full_share) ∷ ‵ (kept_of R a k ν δ) ∷ ‵ (slice 𝓛 R s) ∷ []) ∵ updating ! $ lft_end ! tt $ move ! (2 ∷ []) $ use1 𝓛 (‵ (last_is R δ l l)) (says_list 𝓛 R s l refl) $ fsplit ! $ move ! (2 ∷ 3 ∷ 0 ∷ []) $
+      qed 𝓛 (‵ (flft (ν ∷ []) full_share) ∷ ‵ (kept_of R a k ν δ) ∷ ‵ (slice 𝓛 R s) ∷ []) ∵ updating ! $ lft_end ! tt $ move ! (2 ∷ []) $ use1 𝓛 (‵ (last_is R (ν ∷ []) a.b a.o δ l l)) (says_list 𝓛 R s l refl) $ fsplit ! $ move ! (1 ∷ []) $ drop ! $ fsplit ! $ move ! (2 ∷ 3 ∷ 0 ∷ []) $
       use3 𝓛 (later (given (length l ≡ length (take k a.list)) (‵ ((MutSlice erased a.κ R).own_val (record { ref_ptr = (a.b, a.o); ghost_name = a.γ; now = l ++ after k a.list })) ⊛ ‵ (flft a.κ a.q))))
       (sl_relent_backᵖˡ 𝓛 R a.κ a.q (ν ∷ []) a.b a.o a.γ δ a.list k l) $ await ! tt $ learn ! (λ e. split ! $ fsplit ! $
       feq_i ! (List Val) (slice_val (a.b, a.o) a.m ∷ []) (slice_val (a.b, a.o) (length (l ++ after k a.list)) ∷ []) (ap (λ (m : ℕ). slice_val (a.b, a.o) m ∷ []) (sym (same l e long))) $ fjoin ! $ fjoin ! $

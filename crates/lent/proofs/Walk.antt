@@ -13,10 +13,10 @@ use mathlib.Core.Bool.{Bool, true, false, cond}
 use mathlib.Core.Option.{Option, none, some}
 use mathlib.Core.List.{List, [], ◌∷◌, ◌++◌}
 use seplogic.Ra.Ura.{Ura}
-use seplogic.Ra.TreeShare.{full_share}
+use base.Fraction.{full_share}
 use lib.Dec.{T, ltb, ltb→lt}
-use mir.Syntax.{Mutability, Lifetime, w64, Ty, ty_int, ty_bool, ty_float, ty_ptr, ty_ref, ty_array, ty_unit, ty_struct, ty_enum, ty_named, Sym, Tys, Tyss, Step as PStep, deref, field, variant, place, Opd as Operand, copy, int, int_neg, int_big, float, opd_true, opd_false, opd_unit, ptr_const, rv_opd, addr_of, aggregate, Body, skip, seq, assign, block, loop, cond as condᴮ, switch, exit, return, call, Arms, arm, default, no_default, Local}
-use mir.Val.{Val, Vals, Fits, vunit, vbool, vint, vfloat, vptr, vstruct, of_list, WT, has_ty, has_key, bits}
+use mir.Syntax.{Mutability, Lifetime, w64, Ty, ty_int, ty_bool, ty_float, ty_ptr, ty_ref, ty_array, ty_unit, ty_struct, ty_enum, ty_named, ty_param, ty_const, ty_array_p, Sym, Tys, Tyss, Step as PStep, deref, field, variant, place, Opd as Operand, copy, int, int_neg, int_big, float, opd_true, opd_false, opd_unit, ptr_const, size_of, align_of, num_of, fn_addr, vtable, rv_opd, addr_of, aggregate, Body, skip, seq, assign, block, loop, cond as condᴮ, switch, exit, return, call, unreachable, call_v, lend_static, Arms, arm, default, no_default, Local}
+use mir.Val.{Val, Vals, Fits, vunit, vbool, vint, vfloat, vptr, vstruct, vcode, of_list, WT, has_ty, has_key, bits}
 use mir.Fields.{get_v}
 use base.Logic.{SProp, ent, sep, ex, id⊢, via, mono_l, comm∗, ex∗, guard, guard_i}
 use base.Fml.{Share, fat}
@@ -38,6 +38,7 @@ fields_of (vint w n) = none
 fields_of (vfloat f x) = none
 fields_of (vptr b o) = none
 fields_of (vstruct vs) = some vs
+fields_of (vcode ι) = none
 
 abbrev into : Option (Ty × ℕ) → Option Vals → ℕ → (Ty → ℕ → Val → Option (Ty × (ℕ × Val))) → Option (Ty × (ℕ × Val))
 into none us k go = none
@@ -82,6 +83,11 @@ operand ls vs opd_true = some (vbool true)
 operand ls vs opd_false = some (vbool false)
 operand ls vs opd_unit = some vunit
 operand ls vs (ptr_const n) = none
+operand ls vs (size_of τ) = none
+operand ls vs (align_of τ) = none
+operand ls vs (num_of w τ) = none
+operand ls vs (fn_addr f σ) = none
+operand ls vs (vtable τ ss) = none
 
 abbrev more : Option Val → Option (List Val) → Option (List Val)
 more none us = none
@@ -111,6 +117,7 @@ module _ (k : ℕ) (go : Ty → ℕ → Val → Option (Ty × (ℕ × Val))) (x 
 
   within_struct : (ν : Sym) (τs : Tys) (v : Val) → into (field_at zero τs k) (fields_of v) k go ≡ some x → Within (ty_struct ν τs) v k go x
   within_struct ν τs vunit e = absurd (no_fields (field_at zero τs k) e)
+  within_struct ν τs (vcode ι) e = absurd (no_fields (field_at zero τs k) e)
   within_struct ν τs (vbool b) e = absurd (no_fields (field_at zero τs k) e)
   within_struct ν τs (vint w n) e = absurd (no_fields (field_at zero τs k) e)
   within_struct ν τs (vfloat f y) e = absurd (no_fields (field_at zero τs k) e)
@@ -131,7 +138,10 @@ module _ (k : ℕ) (go : Ty → ℕ → Val → Option (Ty × (ℕ × Val))) (x 
   within ty_unit v e = absurd (none_some e)
   within (ty_struct ν τs) v e = within_struct ν τs v e
   within (ty_enum ν τss) v e = absurd (none_some e)
-  within (ty_named ν) v e = absurd (none_some e)
+  within (ty_named ν τs) v e = absurd (none_some e)
+  within (ty_param n) v e = absurd (none_some e)
+  within (ty_const n) v e = absurd (none_some e)
+  within (ty_array_p τ n) v e = absurd (none_some e)
 
 module _ {M : Type 1} {𝓤 : Ura M} (K : Type 0) (𝓛 : Logic 𝓤) (Γ : List (Item 𝓤)) (E : Env 𝓤 𝓛.H) where
   -- a place of an entry's cell: what stands there can be taken out and put back
@@ -238,6 +248,11 @@ module _ {M : Type 1} {𝓤 : Ura M} {K : Type 0} (t : K) (𝓛 : Logic 𝓤) (l
   reads opd_false v e = subst (Opd K 𝓛 Γ E opd_false) (some_one e) (false_lit t)
   reads opd_unit v e = subst (Opd K 𝓛 Γ E opd_unit) (some_one e) (unit_lit t)
   reads (ptr_const n) v e = absurd (none_some e)
+  reads (size_of τ) v e = absurd (none_some e)
+  reads (align_of τ) v e = absurd (none_some e)
+  reads (num_of w τ) v e = absurd (none_some e)
+  reads (fn_addr f σ) v e = absurd (none_some e)
+  reads (vtable τ ss) v e = absurd (none_some e)
 
   pub reads_all : (xs : List Operand) (us : List Val) → operands ls vs xs ≡ some us → Opds K 𝓛 Γ E xs us
   reads_all [] us e = subst (Opds K 𝓛 Γ E []) (some_one e) (no_more t)
@@ -267,6 +282,9 @@ after (suc n) (switch c xs) = skip
 after (suc n) (exit k) = skip
 after (suc n) return = skip
 after (suc n) (call f xs p) = skip
+after (suc n) unreachable = skip
+after (suc n) (call_v x σ xs p) = skip
+after (suc n) (lend_static p τ c) = skip
 
 abbrev or_skip : Option Body → Body
 or_skip none = skip
@@ -283,6 +301,9 @@ arm_in (switch c xs) x = or_skip (arm_of xs x)
 arm_in (exit k) x = skip
 arm_in return x = skip
 arm_in (call f xs p) x = skip
+arm_in unreachable x = skip
+arm_in (call_v f σ xs p) x = skip
+arm_in (lend_static p τ c) x = skip
 
 -- a rule and what follows it
 infixr 1 ◌▸◌

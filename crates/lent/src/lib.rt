@@ -1,3 +1,2 @@
 // Rules for proofs by hand over lent slices of structs: no code. Inside the library.
 #![tactic(auto)]
-
