@@ -20,10 +20,10 @@ found s = let a = s.args in searched (gain_of a.sums.now a.d) (shortest_of a.sho
 
 pub returns-in-Record : goal.returns-in-Record
 returns-in-Record c =
-    let w = record_given (found c.before.before.before.before.before.before.before.before) _ (sym c.search_segment.ensures ∙ c.found-1.given.1) in
+    let w = record_given (found c.before.before.before.before.before.before) _ (sym c.in-Record.ensures) in
     c.best.ensures ∙ sym (ap (λ (a : Answer Record). best_split_of (split_found a)) w)
 
 pub returns-in-Refused : goal.returns-in-Refused
 returns-in-Refused c =
-    let w = number_given (found c.before.before.before.before.before.before.before) _ (sym c.search_segment.ensures ∙ c.no-1.given.1) in
+    let w = number_given (found c.before.before.before.before.before) _ (sym c.in-Refused.ensures) in
     sym (ap (λ (a : Answer Record). best_split_of (split_found a)) w)

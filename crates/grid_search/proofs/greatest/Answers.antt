@@ -13,6 +13,7 @@ use Rattle.optimizer.proofs.Walk.{best_walked, best_none, best_barred, best_trie
 use Rattle.control.specs.Settings.{shortest_of}
 use borrow.Author.Rules.{rules}
 use Rattle.grid_search.proofs.greatest.Goals as goal
+use Rattle.grid_search.proofs.greatest.Goals.{then-not-is_barred, else-not-is_barred}
 
 pub loop-k-init : goal.loop-k-init
 loop-k-init c = let s = c.args in (omega arith, c.blank-record.ensures ∙ best_none (gain_of s.sums.now s.d) s.forbidden.now s.start.0 s.stop.0 (blank s.start.0 s.stop.0) (s.start.0 + s.shortest.m))
@@ -34,10 +35,10 @@ loop-k-preserved c =
     let g = gain_of s.sums.now s.d in
     let first = s.start.0 + s.shortest.m in (
       omega arith,
-      ⊎_elim
-          (λ w. ap to_record w.3 ∙ w.2.ensures ∙ rw row (best_tried g s.forbidden.now s.start.0 s.stop.0 (blank s.start.0 s.stop.0) refl refl first at.k _ _ (rw row at (sym b.ensures ∙ not-true b.result w.0.taken)) at.invariant.1 (rw row at w.1.ensures)))
-          (λ w. ap to_record w.1 ∙ at.invariant.1 ∙ best_barred g s.forbidden.now s.start.0 s.stop.0 (blank s.start.0 s.stop.0) first at.k (rw row at (sym b.ensures ∙ not-false b.result w.0.left)))
-          c.if-not-is_barred.branch,
+      elim c.if-not-is_barred.branch [
+      then-not-is_barred w ↦ ap to_record w.record-is ∙ w.better-record.ensures ∙ rw row (best_tried g s.forbidden.now s.start.0 s.stop.0 (blank s.start.0 s.stop.0) refl refl first at.k _ _ (rw row at (sym b.ensures ∙ w.if-not-is_barred.true)) at.invariant.1 (rw row at w.gain.ensures))
+      | else-not-is_barred w ↦ ap to_record w.record-is ∙ at.invariant.1 ∙ best_barred g s.forbidden.now s.start.0 s.stop.0 (blank s.start.0 s.stop.0) first at.k (rw row at (sym b.ensures ∙ w.if-not-is_barred.false))
+      ],
     )
 
 pub returns : goal.returns

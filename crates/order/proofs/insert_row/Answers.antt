@@ -16,6 +16,7 @@ use Rattle.order.specs.Rows.{Below}
 use Rattle.order.proofs.Ordered.{later, here}
 use Rattle.std.proofs.Common.{not}
 use Rattle.order.proofs.insert_row.Goals as goal
+use Rattle.order.proofs.insert_row.Goals.{else-loop-hole-test, then-loop-hole-test+then-not-is_nearer}
 use Rattle.order.proofs.insert_row.Invariants.{State}
 
 module _ {ds : List Float} {row : ℕ} {out₀ out : List ℕ} {hole : ℕ} (s : State ds row out₀ out hole) where
@@ -68,7 +69,7 @@ shape_of-out c = simp length-set c.loop-hole.invariant.long
 pub returns : goal.returns
 returns c =
     let s = c.loop-hole.invariant in
-    ⊎_elim
-    (λ w. placed-last s w.left)
-    (λ w. placed-before s w.0.taken (sym w.2.ensures ∙ not-true _ w.3.taken))
-    c.loop-hole-test.branch
+    elim c.loop-hole-test.branch [
+    else-loop-hole-test w ↦ placed-last s w.loop-hole-test.false
+    | then-loop-hole-test+then-not-is_nearer w ↦ placed-before s w.loop-hole-test.true (sym w.is_nearer.ensures ∙ w.if-not-is_nearer.true)
+    ]

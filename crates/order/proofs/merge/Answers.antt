@@ -143,7 +143,7 @@ loop-k-preserved c =
     let at = c.loop-k in
     let f = c.compare-front.ensures in
     let g = c.compare-back.ensures in
-    next p.0 p.1 at.invariant c.loop-k-test.true f.0 f.1.0 g.0 g.1.1
+    next p.0 p.1 at.invariant c.loop-k-test.true f.second_value f.near_value.0 g.second_value g.near_value.1
 
 pub shape_of-out-then-n-half : goal.shape_of-out-then-n-half
 shape_of-out-then-n-half c = c.loop-k.invariant.long

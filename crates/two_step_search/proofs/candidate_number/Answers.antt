@@ -12,6 +12,7 @@ use Rattle.control.specs.Settings.{shortest_of}
 use borrow.Author.Rules.{rules}
 use Rattle.std.proofs.Common.{not}
 use Rattle.two_step_search.proofs.candidate_number.Goals as goal
+use Rattle.two_step_search.proofs.candidate_number.Goals.{then-not-is_barred+else-seen-i, else-not-is_barred}
 
 pub loop-k-init : goal.loop-k-init
 loop-k-init c = (omega arith, omega arith, omega arith, count_none _ _)
@@ -43,10 +44,10 @@ loop-k-preserved c =
     let row = c.range_row-row.ensures in
     let b = c.is_barred in
     let first = s.start.0 + s.shortest.m in
-    ⊎_elim
-    (λ w. rw w.2 (omega arith, omega (arith, w.1.left), omega arith, count_free s.forbidden.now first loop.k loop.seen (rw row at (sym b.ensures ∙ not-true b.result w.0.taken)) loop.invariant.3))
-    (λ w. rw w.1 (omega arith, omega arith, omega arith, count_barred s.forbidden.now first loop.k loop.seen (rw row at (sym b.ensures ∙ not-false b.result w.0.left)) loop.invariant.3))
-    c.if-not-is_barred.branch
+    elim c.if-not-is_barred.branch [
+    then-not-is_barred+else-seen-i w ↦ rw w.seen-is (omega arith, omega (arith, w.if-seen-i.false), omega arith, count_free s.forbidden.now first loop.k loop.seen (rw row at (sym b.ensures ∙ w.if-not-is_barred.true)) loop.invariant.3)
+    | else-not-is_barred w ↦ rw w.seen-is (omega arith, omega arith, omega arith, count_barred s.forbidden.now first loop.k loop.seen (rw row at (sym b.ensures ∙ w.if-not-is_barred.false)) loop.invariant.3)
+    ]
 
 pub returns : goal.returns
 returns c =

@@ -11,6 +11,7 @@ use Rattle.scope.proofs.Candidates.{one_at_most}
 use Rattle.control.specs.Settings.{shortest_of}
 use borrow.Author.Rules.{rules}
 use Rattle.two_step_search.proofs.count_candidates.Goals as goal
+use Rattle.two_step_search.proofs.count_candidates.Goals.{then-not-is_barred, else-not-is_barred}
 
 pub loop-k-init : goal.loop-k-init
 loop-k-init c = (omega arith, omega arith, count_none _ _)
@@ -30,10 +31,10 @@ loop-k-preserved c =
     let row = c.range_row.ensures in
     let b = c.is_barred in
     let first = s.start.0 + s.shortest.m in
-    ⊎_elim
-    (λ w. rw w.1 (omega arith, omega arith, count_free s.forbidden.now first loop.k loop.count (rw row at (sym b.ensures ∙ not-true b.result w.0.taken)) loop.invariant.2))
-    (λ w. rw w.1 (omega arith, omega arith, count_barred s.forbidden.now first loop.k loop.count (rw row at (sym b.ensures ∙ not-false b.result w.0.left)) loop.invariant.2))
-    c.if-not-is_barred.branch
+    elim c.if-not-is_barred.branch [
+    then-not-is_barred w ↦ rw w.count-is (omega arith, omega arith, count_free s.forbidden.now first loop.k loop.count (rw row at (sym b.ensures ∙ w.if-not-is_barred.true)) loop.invariant.2)
+    | else-not-is_barred w ↦ rw w.count-is (omega arith, omega arith, count_barred s.forbidden.now first loop.k loop.count (rw row at (sym b.ensures ∙ w.if-not-is_barred.false)) loop.invariant.2)
+    ]
 
 pub returns : goal.returns
 returns c =

@@ -16,6 +16,7 @@ use Rattle.scope.proofs.Candidates.{one_at_most}
 use Rattle.control.specs.Settings.{shortest_of}
 use borrow.Author.Rules.{rules}
 use Rattle.two_step_search.proofs.single_find_best_split.Goals as goal
+use Rattle.two_step_search.proofs.single_find_best_split.Goals.{then-not-is_barred, else-not-is_barred}
 use Rattle.two_step_search.proofs.single_find_best_split.Invariants.{along}
 
 pub loop-k-init : goal.loop-k-init
@@ -39,13 +40,13 @@ loop-k-preserved c =
     let first = s.start.0 + s.shortest.m in
     let starts : g.start ≡ s.start.0 = ap (λ (z : Record). z.start) c.guessed-record.ensures in (
       omega arith,
-      ⊎_elim
-          (λ w. ap to_record w.4
-          ∙ w.3.ensures
+      elim c.if-not-is_barred.branch [
+      then-not-is_barred w ↦ ap to_record w.record-is
+          ∙ w.better-record.ensures
           ∙ rw row (best_tried (along s.curve.now) s.forbidden.now s.start.0 g.stop g starts refl first loop.k _ _
-          (rw row at (sym b.ensures ∙ not-true b.result w.0.taken)) loop.invariant.1 (rw row at (w.2.ensures ∙ ap (at s.curve.now) w.1.ensures))))
-          (λ w. ap to_record w.1 ∙ loop.invariant.1 ∙ best_barred (along s.curve.now) s.forbidden.now s.start.0 g.stop g first loop.k (rw row at (sym b.ensures ∙ not-false b.result w.0.left)))
-          c.if-not-is_barred.branch,
+          (rw row at (sym b.ensures ∙ w.if-not-is_barred.true)) loop.invariant.1 (rw row at (w.value_at.ensures ∙ ap (at s.curve.now) w.offset_in.ensures)))
+      | else-not-is_barred w ↦ ap to_record w.record-is ∙ loop.invariant.1 ∙ best_barred (along s.curve.now) s.forbidden.now s.start.0 g.stop g first loop.k (rw row at (sym b.ensures ∙ w.if-not-is_barred.false))
+      ],
     )
 
 pub returns : goal.returns

@@ -7,6 +7,7 @@ use Rattle.optimizer.specs.Records.{to_record}
 use Rattle.stored.proofs.Chosen.{SoFar, begins, compared, passed, ended}
 use borrow.Author.Rules.{rules}
 use Rattle.stored.proofs.choice.choose.Goals as goal
+use Rattle.stored.proofs.choice.choose.Goals.{then-lies_inside, else-lies_inside}
 
 pub loop-k-init : goal.loop-k-init
 loop-k-init c = (omega arith, begins)
@@ -18,10 +19,10 @@ loop-k-preserved c =
     let b = c.lies_inside in
     let more = SoFar s.rows.now s.gains.now s.count s.direct.start.0 s.direct.stop.0 (to_record s.direct) (at.k + 1) in (
       omega arith,
-      ⊎_elim
-          (λ w. subst more (sym (ap to_record w.2 ∙ w.1.ensures)) (compared (omega arith) refl at.invariant.1 (sym b.ensures ∙ w.0.taken)))
-          (λ w. subst more (sym (ap to_record w.1)) (passed (omega arith) refl at.invariant.1 (sym b.ensures ∙ w.0.left)))
-          c.if-lies_inside.branch,
+      elim c.if-lies_inside.branch [
+      then-lies_inside w ↦ subst more (sym (ap to_record w.choice-is ∙ w.stronger-choice.ensures)) (compared (omega arith) refl at.invariant.1 (sym b.ensures ∙ w.if-lies_inside.true))
+      | else-lies_inside w ↦ subst more (sym (ap to_record w.choice-is)) (passed (omega arith) refl at.invariant.1 (sym b.ensures ∙ w.if-lies_inside.false))
+      ],
     )
 
 pub returns : goal.returns
