@@ -1,0 +1,6 @@
+-- `uncut` meets its contract: the choice in numbers.
+use borrow.Author.Rules.{rules}
+use Rattle.node.proofs.Node.uncut.Goals as goal
+
+pub returns : goal.returns
+returns c = rw c.of.ensures
