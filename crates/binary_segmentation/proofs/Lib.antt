@@ -2,5 +2,3 @@
 pub mod Judging
 pub mod Growth
 pub mod Segmented
-pub mod Data
-pub mod Deals

@@ -96,8 +96,8 @@ fn grow(
     cuts: &mut [usize],
     counts: Counts,
 ) -> Counts
-    requires { Sized asked stop.0 (length sums.now) × Fits (over sums.now forbidden.now asked) start.0 stop.0 counts (record { rows = rows.now; gains = gains.old; nodes = nodes.old; cuts = cuts.old }) }
-    ensures { Growing (over sums.now forbidden.now asked) start.0 stop.0 counts (record { rows = rows.entry.now; gains = gains.old; nodes = nodes.old; cuts = cuts.old }) (record { rows = rows.exit.now; gains = gains.new; nodes = nodes.new; cuts = cuts.new }) result }
+    requires { Sized asked stop.0 (length sums.now) × Fits (over sums.now forbidden.now asked) start.0 stop.0 counts (record { rows = rows.old; gains = gains.old; nodes = nodes.old; cuts = cuts.old }) }
+    ensures { Growing (over sums.now forbidden.now asked) start.0 stop.0 counts (record { rows = rows.old; gains = gains.old; nodes = nodes.old; cuts = cuts.old }) (record { rows = rows.new; gains = gains.new; nodes = nodes.new; cuts = cuts.new }) result }
 {
     match judge(sums, forbidden, asked, start, stop, rows, gains, counts) {
         Judged::Uncut(leaf, behind) => {
@@ -134,8 +134,8 @@ pub fn binary_segmentation(
     cuts: &mut [usize],
     count: usize,
 ) -> Counts
-    requires { Sized asked n (length sums.now) × Ready sums.now forbidden.now asked n count (record { rows = rows.now; gains = gains.old; nodes = nodes.old; cuts = cuts.old }) }
-    ensures { Segmented sums.now forbidden.now asked n count (record { rows = rows.entry.now; gains = gains.old; nodes = nodes.old; cuts = cuts.old }) (record { rows = rows.exit.now; gains = gains.new; nodes = nodes.new; cuts = cuts.new }) result }
+    requires { Sized asked n (length sums.now) × Ready sums.now forbidden.now asked n count (record { rows = rows.old; gains = gains.old; nodes = nodes.old; cuts = cuts.old }) }
+    ensures { Segmented sums.now forbidden.now asked n count (record { rows = rows.old; gains = gains.old; nodes = nodes.old; cuts = cuts.old }) (record { rows = rows.new; gains = gains.new; nodes = nodes.new; cuts = cuts.new }) result }
 {
     let before = Counts {
         nodes: 0,

@@ -104,7 +104,7 @@ pub fn gain_refusal(
     split: Position,
     room: usize,
 ) -> u32
-    ensures { result ≡ gain_refusal (record { matrix = record { cells = cells.entry.now; n = n; d = d }; start = start.0; stop = stop.0; split = split.0; room = room }) }
+    ensures { result ≡ gain_refusal (record { matrix = record { cells = cells.now; n = n; d = d }; start = start.0; stop = stop.0; split = split.0; room = room }) }
 {
     if control::wrong_matrix(cells, n, d, control::MOST_ROWS) {
         return 1;

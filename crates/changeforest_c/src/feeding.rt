@@ -77,7 +77,7 @@ pub extern "C" fn changeforest_fed_tree(
     cuts: &mut [usize],
     counts: &mut [usize],
 ) -> u32
-    ensures { FedStored (record { n = n; d = d; count = count }) (record { shortest = record { m = m; closed = closed }; threshold = threshold; forbidden = forbidden.now; source = record { layers = layers.entry.now; draws = draws.now; W = w } }) result (record { sums = sums.entry.now; rows = rows.old; gains = gains.old; nodes = nodes.old; cuts = cuts.old }) (record { sums = sums.entry.now; rows = rows.new; gains = gains.new; nodes = nodes.new; cuts = cuts.new }) counts.old counts.new }
+    ensures { FedStored (record { n = n; d = d; count = count }) (record { shortest = record { m = m; closed = closed }; threshold = threshold; forbidden = forbidden.now; source = record { layers = layers.now; draws = draws.now; W = w } }) result (record { sums = sums.now; rows = rows.old; gains = gains.old; nodes = nodes.old; cuts = cuts.old }) (record { sums = sums.now; rows = rows.new; gains = gains.new; nodes = nodes.new; cuts = cuts.new }) counts.old counts.new }
 {
     let shortest = Shortest { m, closed };
     let settings = Settings {

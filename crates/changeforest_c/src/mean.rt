@@ -50,7 +50,7 @@ pub extern "C" fn changeforest_gain(
     sums: &mut [f64],
     gain: &mut f64,
 ) -> u32
-    ensures { GainStored (record { matrix = record { cells = cells.entry.now; n = n; d = d }; start = start; stop = stop; split = split; room = length sums.old }) result sums.old sums.new gain.old gain.new }
+    ensures { GainStored (record { matrix = record { cells = cells.now; n = n; d = d }; start = start; stop = stop; split = split; room = length sums.old }) result sums.old sums.new gain.old gain.new }
 {
     let answer = entry_mean::gain(
         cells,
@@ -85,7 +85,7 @@ pub extern "C" fn changeforest_find_best_split(
     split: &mut usize,
     gain: &mut f64,
 ) -> u32
-    ensures { SearchStored (record { matrix = record { cells = cells.entry.now; n = n; d = d }; shortest = record { m = m; closed = closed }; forbidden = forbidden.now; start = start; stop = stop; room = length sums.old }) result sums.old sums.new split.old split.new gain.old gain.new }
+    ensures { SearchStored (record { matrix = record { cells = cells.now; n = n; d = d }; shortest = record { m = m; closed = closed }; forbidden = forbidden.now; start = start; stop = stop; room = length sums.old }) result sums.old sums.new split.old split.new gain.old gain.new }
 {
     let answer = entry_mean::find_best_split(
         cells,

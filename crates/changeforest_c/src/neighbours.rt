@@ -12,7 +12,7 @@ pub extern "C" fn changeforest_ordering(
     ordering: &mut [u32],
     distances: &mut [f64],
 ) -> u32
-    ensures { OrderingLeft (record { cells = cells.entry.now; n = n; d = d }) result (record { ordering = ordering.entry.now; distances = distances.old }) (record { ordering = ordering.exit.now; distances = distances.new }) }
+    ensures { OrderingLeft (record { cells = cells.now; n = n; d = d }) result (record { ordering = ordering.old; distances = distances.old }) (record { ordering = ordering.new; distances = distances.new }) }
 {
     entry_neighbours::ordering(cells, n, d, ordering, distances)
 }
@@ -30,7 +30,7 @@ pub extern "C" fn changeforest_predict(
     distances: &mut [f64],
     predictions: &mut [f64],
 ) -> u32
-    ensures { PredictLeft (record { cells = cells.entry.now; n = n; d = d }) start stop split result (record { order = record { ordering = ordering.entry.now; distances = distances.old }; predictions = predictions.old }) (record { order = record { ordering = ordering.exit.now; distances = distances.new }; predictions = predictions.new }) }
+    ensures { PredictLeft (record { cells = cells.now; n = n; d = d }) start stop split result (record { order = record { ordering = ordering.old; distances = distances.old }; predictions = predictions.old }) (record { order = record { ordering = ordering.new; distances = distances.new }; predictions = predictions.new }) }
 {
     entry_neighbours::predict(
         cells,

@@ -22,7 +22,7 @@ pub extern "C" fn changeforest_stored_segments(
     gains: &mut [f64],
     count: &mut usize,
 ) -> u32
-    ensures { SegmentsStored (record { cells = cells.entry.now; n = n; d = d }) (record { m = m; closed = closed }) forbidden.now (record { layers = layers.entry.now; draws = draws.now; W = w }) result (record { sums = sums.entry.now; rows = rows.old; gains = gains.old }) (record { sums = sums.exit.now; rows = rows.new; gains = gains.new }) count.old count.new }
+    ensures { SegmentsStored (record { cells = cells.now; n = n; d = d }) (record { m = m; closed = closed }) forbidden.now (record { layers = layers.now; draws = draws.now; W = w }) result (record { sums = sums.old; rows = rows.old; gains = gains.old }) (record { sums = sums.new; rows = rows.new; gains = gains.new }) count.old count.new }
 {
     let answer = entry_segments::stored_segments(
         cells,

@@ -26,7 +26,7 @@ pub extern "C" fn changeforest_tree(
     cuts: &mut [usize],
     counts: &mut [usize],
 ) -> u32
-    ensures { TreeStored (record { cells = cells.entry.now; n = n; d = d }) (record { shortest = record { m = m; closed = closed }; threshold = threshold; forbidden = forbidden.now; source = record { layers = layers.entry.now; draws = draws.now; W = w } }) result (record { sums = sums.entry.now; rows = rows.old; gains = gains.old; nodes = nodes.old; cuts = cuts.old }) (record { sums = sums.exit.now; rows = rows.new; gains = gains.new; nodes = nodes.new; cuts = cuts.new }) counts.old counts.new }
+    ensures { TreeStored (record { cells = cells.now; n = n; d = d }) (record { shortest = record { m = m; closed = closed }; threshold = threshold; forbidden = forbidden.now; source = record { layers = layers.now; draws = draws.now; W = w } }) result (record { sums = sums.old; rows = rows.old; gains = gains.old; nodes = nodes.old; cuts = cuts.old }) (record { sums = sums.new; rows = rows.new; gains = gains.new; nodes = nodes.new; cuts = cuts.new }) counts.old counts.new }
 {
     let shortest = Shortest { m, closed };
     let settings = Settings {

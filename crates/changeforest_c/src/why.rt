@@ -36,7 +36,7 @@ pub extern "C" fn changeforest_why(
     b: &mut usize,
     gain: &mut f64,
 ) -> u32
-    ensures { WhyStored (record { cells = cells.entry.now; n = n; d = d }) (record { shortest = record { m = m; closed = closed }; threshold = threshold; forbidden = forbidden.now; source = record { layers = layers.entry.now; draws = draws.now; W = w } }) row result (record { sums = sums.entry.now; rows = rows.old; gains = gains.old }) (record { sums = sums.exit.now; rows = rows.new; gains = gains.new }) text.old text.new (record { reason = reason.entry.now; start = start.old; stop = stop.old; kind = kind.old; number = number.old; length = length.old; a = a.old; b = b.old; gain = gain.old }) (record { reason = reason.exit.now; start = start.new; stop = stop.new; kind = kind.new; number = number.new; length = length.new; a = a.new; b = b.new; gain = gain.new }) }
+    ensures { WhyStored (record { cells = cells.now; n = n; d = d }) (record { shortest = record { m = m; closed = closed }; threshold = threshold; forbidden = forbidden.now; source = record { layers = layers.now; draws = draws.now; W = w } }) row result (record { sums = sums.old; rows = rows.old; gains = gains.old }) (record { sums = sums.new; rows = rows.new; gains = gains.new }) text.old text.new (record { reason = reason.old; start = start.old; stop = stop.old; kind = kind.old; number = number.old; length = length.old; a = a.old; b = b.old; gain = gain.old }) (record { reason = reason.new; start = start.new; stop = stop.new; kind = kind.new; number = number.new; length = length.new; a = a.new; b = b.new; gain = gain.new }) }
 {
     let shortest = Shortest { m, closed };
     let settings = Settings {

@@ -131,7 +131,7 @@ pub fn first_length(k: usize, deltas0: &[f64]) -> usize
 
 // The number that applies to a call for a curve, or 0.
 pub fn curve_refusal(l0: &[f64], l1: &[f64], room: usize) -> u32
-    ensures { result ≡ curve_refusal (record { l0 = l0.entry.now; l1 = l1.now; room = room }) }
+    ensures { result ≡ curve_refusal (record { l0 = l0.now; l1 = l1.now; room = room }) }
 {
     if !control::all_finite(l0) {
         return 4;

@@ -196,7 +196,7 @@ pub fn record_room(rows: usize, gains: usize) -> usize
 
 // 1 and 2: a matrix and the shortest part.
 pub fn sizes_refusal(cells: &[f64], n: usize, d: usize, shortest: Shortest) -> u32
-    ensures { result ≡ first_of (no1 most_rows (record { cells = cells.entry.now; n = n; d = d }) ∷ no2 (shortest_of shortest) ∷ []) }
+    ensures { result ≡ first_of (no1 most_rows (record { cells = cells.now; n = n; d = d }) ∷ no2 (shortest_of shortest) ∷ []) }
 {
     if wrong_matrix(cells, n, d, MOST_ROWS) {
         return 1;

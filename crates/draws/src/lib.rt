@@ -67,7 +67,7 @@ fn both_given(layers: &[f64], draws: &[usize]) -> bool
 
 // 5 and 6 of the lists that stored segments come from, and W: the number that applies, or 0.
 pub fn source_refusal(layers: &[f64], draws: &[usize], w: usize) -> u32
-    ensures { result ≡ first_of (source_tests (record { layers = layers.entry.now; draws = draws.now; W = w })) }
+    ensures { result ≡ first_of (source_tests (record { layers = layers.now; draws = draws.now; W = w })) }
 {
     if is_odd(draws) {
         return 5;
@@ -87,7 +87,7 @@ pub fn source_refusal(layers: &[f64], draws: &[usize], w: usize) -> u32
 // T, the most records that are stored: W where there are draws, else the layers' counts summed.
 pub fn most_stored(layers: &[f64], draws: &[usize], w: usize) -> usize
     requires { wrong_layers layers.now ≡ false }
-    ensures { result ≡ most_stored (record { layers = layers.entry.now; draws = draws.now; W = w }) }
+    ensures { result ≡ most_stored (record { layers = layers.now; draws = draws.now; W = w }) }
 {
     if draws.len() == 0 {
         return layers::layers_total(layers);

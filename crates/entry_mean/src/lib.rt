@@ -53,7 +53,7 @@ pub fn gain(
     split: Position,
     sums: &mut [f64],
 ) -> Gained
-    ensures { GainLeft (record { matrix = record { cells = cells.entry.now; n = n; d = d }; start = start.0; stop = stop.0; split = split.0; room = length sums.old }) result sums.old sums.new }
+    ensures { GainLeft (record { matrix = record { cells = cells.now; n = n; d = d }; start = start.0; stop = stop.0; split = split.0; room = length sums.old }) result sums.old sums.new }
 {
     let no = change_in_mean::gain_refusal(cells, n, d, start, stop, split, sums.len());
     if no != 0 {
@@ -75,7 +75,7 @@ pub fn find_best_split(
     stop: Position,
     sums: &mut [f64],
 ) -> BestSplit
-    ensures { SearchLeft (record { matrix = record { cells = cells.entry.now; n = n; d = d }; shortest = shortest_of shortest; forbidden = forbidden.now; start = start.0; stop = stop.0; room = length sums.old }) result sums.old sums.new }
+    ensures { SearchLeft (record { matrix = record { cells = cells.now; n = n; d = d }; shortest = shortest_of shortest; forbidden = forbidden.now; start = start.0; stop = stop.0; room = length sums.old }) result sums.old sums.new }
 {
     let no = grid_search::search_refusal(cells, n, d, shortest, forbidden, start, stop, sums.len());
     if no != 0 {

@@ -17,7 +17,7 @@ pub fn ordering(
     ordering: &mut [u32],
     distances: &mut [f64],
 ) -> u32
-    ensures { OrderingLeft (record { cells = cells.entry.now; n = n; d = d }) result (record { ordering = ordering.entry.now; distances = distances.old }) (record { ordering = ordering.exit.now; distances = distances.new }) }
+    ensures { OrderingLeft (record { cells = cells.now; n = n; d = d }) result (record { ordering = ordering.old; distances = distances.old }) (record { ordering = ordering.new; distances = distances.new }) }
 {
     let no = refusals::ordering_refusal(cells, n, d, ordering.len(), distances.len());
     if no != 0 {
@@ -40,7 +40,7 @@ pub fn predict(
     distances: &mut [f64],
     predictions: &mut [f64],
 ) -> u32
-    ensures { PredictLeft (record { cells = cells.entry.now; n = n; d = d }) start.0 stop.0 split.0 result (record { order = record { ordering = ordering.entry.now; distances = distances.old }; predictions = predictions.old }) (record { order = record { ordering = ordering.exit.now; distances = distances.new }; predictions = predictions.new }) }
+    ensures { PredictLeft (record { cells = cells.now; n = n; d = d }) start.0 stop.0 split.0 result (record { order = record { ordering = ordering.old; distances = distances.old }; predictions = predictions.old }) (record { order = record { ordering = ordering.new; distances = distances.new }; predictions = predictions.new }) }
 {
     let no = refusals::predict_refusal(
         cells,

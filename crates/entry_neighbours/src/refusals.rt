@@ -6,7 +6,7 @@ use rows::Position;
 
 // Of a call for the ordering.
 pub fn ordering_refusal(cells: &[f64], n: usize, d: usize, ordering: usize, distances: usize) -> u32
-    ensures { result ≡ ordering_refusal (record { matrix = record { cells = cells.entry.now; n = n; d = d }; ordering = ordering; distances = distances }) }
+    ensures { result ≡ ordering_refusal (record { matrix = record { cells = cells.now; n = n; d = d }; ordering = ordering; distances = distances }) }
 {
     if control::wrong_matrix(cells, n, d, control::MOST_NEIGHBOURS) {
         return 1;
@@ -45,7 +45,7 @@ pub fn predict_refusal(
     distances: usize,
     room: usize,
 ) -> u32
-    ensures { result ≡ predict_refusal (record { order = record { matrix = record { cells = cells.entry.now; n = n; d = d }; ordering = ordering; distances = distances }; start = start.0; stop = stop.0; split = split.0; room = room }) }
+    ensures { result ≡ predict_refusal (record { order = record { matrix = record { cells = cells.now; n = n; d = d }; ordering = ordering; distances = distances }; start = start.0; stop = stop.0; split = split.0; room = room }) }
 {
     let no = ordering_refusal(cells, n, d, ordering, distances);
     if no != 0 {

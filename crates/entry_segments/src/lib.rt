@@ -24,7 +24,7 @@ pub fn stored_segments(
     rows: &mut [usize],
     gains: &mut [f64],
 ) -> Count
-    ensures { StoredLeft (record { cells = cells.entry.now; n = n; d = d }) (shortest_of shortest) forbidden.now (record { layers = layers.entry.now; draws = draws.now; W = w }) result (record { sums = sums.entry.now; rows = rows.old; gains = gains.old }) (record { sums = sums.exit.now; rows = rows.new; gains = gains.new }) }
+    ensures { StoredLeft (record { cells = cells.now; n = n; d = d }) (shortest_of shortest) forbidden.now (record { layers = layers.now; draws = draws.now; W = w }) result (record { sums = sums.old; rows = rows.old; gains = gains.old }) (record { sums = sums.new; rows = rows.new; gains = gains.new }) }
 {
     let room = control::record_room(rows.len(), gains.len());
     let no = segmentation::stored_refusal(

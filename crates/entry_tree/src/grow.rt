@@ -20,7 +20,7 @@ pub fn grow(
     cuts: &mut [usize],
 ) -> Grown
     requires { Readied prepared sums.now forbidden.now asked n (record { rows = rows.now; gains = gains.old; nodes = nodes.old; cuts = cuts.old }) }
-    ensures { GrownFrom prepared sums.now forbidden.now asked n result (record { rows = rows.entry.now; gains = gains.old; nodes = nodes.old; cuts = cuts.old }) (record { rows = rows.exit.now; gains = gains.new; nodes = nodes.new; cuts = cuts.new }) }
+    ensures { GrownFrom prepared sums.now forbidden.now asked n result (record { rows = rows.old; gains = gains.old; nodes = nodes.old; cuts = cuts.old }) (record { rows = rows.new; gains = gains.new; nodes = nodes.new; cuts = cuts.new }) }
 {
     match prepared {
         Prepared::Refused(no) => Grown::Refused(no),

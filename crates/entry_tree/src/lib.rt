@@ -39,7 +39,7 @@ pub fn binary_segmentation(
     nodes: &mut [Node],
     cuts: &mut [usize],
 ) -> Grown
-    ensures { TreeLeft (record { cells = cells.entry.now; n = n; d = d }) (settings_of settings forbidden.now (record { layers = layers.entry.now; draws = draws.now; W = w })) result (record { sums = sums.entry.now; rows = rows.old; gains = gains.old; nodes = nodes.old; cuts = cuts.old }) (record { sums = sums.exit.now; rows = rows.new; gains = gains.new; nodes = nodes.new; cuts = cuts.new }) }
+    ensures { TreeLeft (record { cells = cells.now; n = n; d = d }) (settings_of settings forbidden.now (record { layers = layers.now; draws = draws.now; W = w })) result (record { sums = sums.old; rows = rows.old; gains = gains.old; nodes = nodes.old; cuts = cuts.old }) (record { sums = sums.new; rows = rows.new; gains = gains.new; nodes = nodes.new; cuts = cuts.new }) }
 {
     let prepared = prepared::prepare(
         cells,
@@ -76,7 +76,7 @@ pub fn fed_tree(
     nodes: &mut [Node],
     cuts: &mut [usize],
 ) -> Grown
-    ensures { FedLeft (state_of state) (settings_of settings forbidden.now (record { layers = layers.entry.now; draws = draws.now; W = w })) result (record { sums = sums.entry.now; rows = rows.old; gains = gains.old; nodes = nodes.old; cuts = cuts.old }) (record { sums = sums.entry.now; rows = rows.new; gains = gains.new; nodes = nodes.new; cuts = cuts.new }) }
+    ensures { FedLeft (state_of state) (settings_of settings forbidden.now (record { layers = layers.now; draws = draws.now; W = w })) result (record { sums = sums.now; rows = rows.old; gains = gains.old; nodes = nodes.old; cuts = cuts.old }) (record { sums = sums.now; rows = rows.new; gains = gains.new; nodes = nodes.new; cuts = cuts.new }) }
 {
     let prepared = prepared::fed::prepare(
         sums,
@@ -118,7 +118,7 @@ pub fn split_points(
     gains: &mut [f64],
     cuts: &mut [usize],
 ) -> Grown
-    ensures { PointsLeft (record { cells = cells.entry.now; n = n; d = d }) (settings_of settings forbidden.now (record { layers = layers.entry.now; draws = draws.now; W = w })) result (record { sums = sums.entry.now; rows = rows.old; gains = gains.old }) (record { sums = sums.exit.now; rows = rows.new; gains = gains.new }) cuts.old cuts.new }
+    ensures { PointsLeft (record { cells = cells.now; n = n; d = d }) (settings_of settings forbidden.now (record { layers = layers.now; draws = draws.now; W = w })) result (record { sums = sums.old; rows = rows.old; gains = gains.old }) (record { sums = sums.new; rows = rows.new; gains = gains.new }) cuts.old cuts.new }
 {
     let mut nodes = [Node::without_choice(Position(0), Position(0)); MOST_NODES];
     binary_segmentation(

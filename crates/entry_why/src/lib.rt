@@ -39,7 +39,7 @@ fn why_refusal(
     records: usize,
     text: usize,
 ) -> u32
-    ensures { result ≡ why_refusal (record { matrix = record { cells = cells.entry.now; n = n; d = d }; settings = settings_of settings forbidden.now (record { layers = layers.entry.now; draws = draws.now; W = w }); row = row.0; sums = sums; records = records; text = text }) }
+    ensures { result ≡ why_refusal (record { matrix = record { cells = cells.now; n = n; d = d }; settings = settings_of settings forbidden.now (record { layers = layers.now; draws = draws.now; W = w }); row = row.0; sums = sums; records = records; text = text }) }
 {
     let run = prepared::run_refusal(cells, n, d, settings, forbidden, layers, draws, w);
     if run != 0 {
@@ -91,7 +91,7 @@ pub fn why(
     gains: &mut [f64],
     text: &mut [u8],
 ) -> Explained
-    ensures { WhyLeft (record { cells = cells.entry.now; n = n; d = d }) (settings_of settings forbidden.now (record { layers = layers.entry.now; draws = draws.now; W = w })) row.0 result (record { sums = sums.entry.now; rows = rows.old; gains = gains.old }) (record { sums = sums.exit.now; rows = rows.new; gains = gains.new }) text.old text.new }
+    ensures { WhyLeft (record { cells = cells.now; n = n; d = d }) (settings_of settings forbidden.now (record { layers = layers.now; draws = draws.now; W = w })) row.0 result (record { sums = sums.old; rows = rows.old; gains = gains.old }) (record { sums = sums.new; rows = rows.new; gains = gains.new }) text.old text.new }
 {
     let room = control::record_room(rows.len(), gains.len());
     let no = why_refusal(

@@ -91,7 +91,7 @@ pub fn search_refusal(
     stop: Position,
     room: usize,
 ) -> u32
-    ensures { result ≡ search_refusal (record { matrix = record { cells = cells.entry.now; n = n; d = d }; shortest = shortest_of shortest; forbidden = forbidden.now; start = start.0; stop = stop.0; room = room }) }
+    ensures { result ≡ search_refusal (record { matrix = record { cells = cells.now; n = n; d = d }; shortest = shortest_of shortest; forbidden = forbidden.now; start = start.0; stop = stop.0; room = room }) }
 {
     let sizes = control::sizes_refusal(cells, n, d, shortest);
     if sizes != 0 {

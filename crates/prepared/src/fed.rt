@@ -19,7 +19,7 @@ fn run_refusal(
     draws: &[usize],
     w: usize,
 ) -> u32
-    ensures { result ≡ first_of (fed_run_tests (state_of state) (settings_of settings forbidden.now (record { layers = layers.entry.now; draws = draws.now; W = w }))) }
+    ensures { result ≡ first_of (fed_run_tests (state_of state) (settings_of settings forbidden.now (record { layers = layers.now; draws = draws.now; W = w }))) }
 {
     if control::wrong_sizes(state.n, state.d, control::MOST_ROWS) {
         return 1;
@@ -50,7 +50,7 @@ pub fn refusal(
     nodes: usize,
     cuts: usize,
 ) -> u32
-    ensures { result ≡ fed_refusal (state_of state) (settings_of settings forbidden.now (record { layers = layers.entry.now; draws = draws.now; W = w })) (record { sums = sums; records = records; nodes = nodes; cuts = cuts }) }
+    ensures { result ≡ fed_refusal (state_of state) (settings_of settings forbidden.now (record { layers = layers.now; draws = draws.now; W = w })) (record { sums = sums; records = records; nodes = nodes; cuts = cuts }) }
 {
     let run = run_refusal(state, settings, forbidden, layers, draws, w);
     if run != 0 {
@@ -83,7 +83,7 @@ pub fn prepare(
     nodes: usize,
     cuts: usize,
 ) -> Prepared
-    ensures { FedPrepares (state_of state) (settings_of settings forbidden.now (record { layers = layers.entry.now; draws = draws.now; W = w })) nodes cuts result (record { sums = sums.entry.now; rows = rows.old; gains = gains.old }) (record { sums = sums.entry.now; rows = rows.new; gains = gains.new }) }
+    ensures { FedPrepares (state_of state) (settings_of settings forbidden.now (record { layers = layers.now; draws = draws.now; W = w })) nodes cuts result (record { sums = sums.now; rows = rows.old; gains = gains.old }) (record { sums = sums.now; rows = rows.new; gains = gains.new }) }
 {
     let room = control::record_room(rows.len(), gains.len());
     let no = refusal(

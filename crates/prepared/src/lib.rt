@@ -23,7 +23,7 @@ pub fn run_refusal(
     draws: &[usize],
     w: usize,
 ) -> u32
-    ensures { result ≡ first_of (run_tests (record { cells = cells.entry.now; n = n; d = d }) (settings_of settings forbidden.now (record { layers = layers.entry.now; draws = draws.now; W = w }))) }
+    ensures { result ≡ first_of (run_tests (record { cells = cells.now; n = n; d = d }) (settings_of settings forbidden.now (record { layers = layers.now; draws = draws.now; W = w }))) }
 {
     let shortest = settings.shortest;
     let sizes = control::sizes_refusal(cells, n, d, shortest);
@@ -54,7 +54,7 @@ pub fn room_refusal(
     cuts: usize,
 ) -> u32
     requires { (n ≤ 4096) × (d ≤ 64) × (1 ≤ shortest.m) × (wrong_layers layers.now ≡ false) × (w ≤ 4096) }
-    ensures { result ≡ first_of (room_tests n d (shortest_of shortest) (record { layers = layers.entry.now; draws = draws.now; W = w }) (record { sums = sums; records = records; nodes = nodes; cuts = cuts })) }
+    ensures { result ≡ first_of (room_tests n d (shortest_of shortest) (record { layers = layers.now; draws = draws.now; W = w }) (record { sums = sums; records = records; nodes = nodes; cuts = cuts })) }
 {
     if sums < control::sums_len(n, d) {
         return 7;
@@ -87,7 +87,7 @@ pub fn tree_refusal(
     nodes: usize,
     cuts: usize,
 ) -> u32
-    ensures { result ≡ tree_refusal (record { matrix = record { cells = cells.entry.now; n = n; d = d }; settings = settings_of settings forbidden.now (record { layers = layers.entry.now; draws = draws.now; W = w }); room = record { sums = sums; records = records; nodes = nodes; cuts = cuts } }) }
+    ensures { result ≡ tree_refusal (record { matrix = record { cells = cells.now; n = n; d = d }; settings = settings_of settings forbidden.now (record { layers = layers.now; draws = draws.now; W = w }); room = record { sums = sums; records = records; nodes = nodes; cuts = cuts } }) }
 {
     let run = run_refusal(cells, n, d, settings, forbidden, layers, draws, w);
     if run != 0 {
@@ -127,7 +127,7 @@ pub fn prepare(
     nodes: usize,
     cuts: usize,
 ) -> Prepared
-    ensures { TreePrepares (tree_asked (record { cells = cells.entry.now; n = n; d = d }) (settings_of settings forbidden.now (record { layers = layers.entry.now; draws = draws.now; W = w })) (record { sums = sums.entry.now; rows = rows.old; gains = gains.old }) nodes cuts) result (record { sums = sums.entry.now; rows = rows.old; gains = gains.old }) (record { sums = sums.exit.now; rows = rows.new; gains = gains.new }) }
+    ensures { TreePrepares (tree_asked (record { cells = cells.now; n = n; d = d }) (settings_of settings forbidden.now (record { layers = layers.now; draws = draws.now; W = w })) (record { sums = sums.old; rows = rows.old; gains = gains.old }) nodes cuts) result (record { sums = sums.old; rows = rows.old; gains = gains.old }) (record { sums = sums.new; rows = rows.new; gains = gains.new }) }
 {
     let room = control::record_room(rows.len(), gains.len());
     let no = tree_refusal(

@@ -198,7 +198,7 @@ pub fn store_records(
     requires n_bound { (n ≤ 4096) × (shortest.m ≤ 4096) × ((n + 1) * d ≤ length sums.now) }
     requires layers_value { (wrong_layers layers.now ≡ false) × Within draws.now d (length sums.now) }
     requires w_in_bounds { (5 * most_stored (record { layers = layers.now; draws = draws.now; W = w }) ≤ length rows.old) × (most_stored (record { layers = layers.now; draws = draws.now; W = w }) ≤ length gains.old) }
-    ensures { Put (stored_over sums.now d (shortest_of shortest) forbidden.now (stored_segments (search_over sums.now d (shortest_of shortest) forbidden.now) n (record { layers = layers.entry.now; draws = draws.now; W = w }))) 0 rows.old gains.old rows.new gains.new result }
+    ensures { Put (stored_over sums.now d (shortest_of shortest) forbidden.now (stored_segments (search_over sums.now d (shortest_of shortest) forbidden.now) n (record { layers = layers.now; draws = draws.now; W = w }))) 0 rows.old gains.old rows.new gains.new result }
 {
     if draws.len() == 0 {
         return store_layers(sums, n, d, shortest, forbidden, layers, rows, gains);
@@ -219,7 +219,7 @@ pub fn stored_refusal(
     sums: usize,
     records: usize,
 ) -> u32
-    ensures { result ≡ stored_refusal (record { matrix = record { cells = cells.entry.now; n = n; d = d }; shortest = shortest_of shortest; forbidden = forbidden.now; source = record { layers = layers.entry.now; draws = draws.now; W = w }; sums = sums; records = records }) }
+    ensures { result ≡ stored_refusal (record { matrix = record { cells = cells.now; n = n; d = d }; shortest = shortest_of shortest; forbidden = forbidden.now; source = record { layers = layers.now; draws = draws.now; W = w }; sums = sums; records = records }) }
 {
     let sizes = control::sizes_refusal(cells, n, d, shortest);
     if sizes != 0 {
@@ -260,7 +260,7 @@ pub fn store_segments(
     gains: &mut [f64],
 ) -> usize
     requires { stored_refusal (stored_asked (record { cells = cells.now; n = n; d = d }) (shortest_of shortest) forbidden.now (record { layers = layers.now; draws = draws.now; W = w }) (record { sums = sums.now; rows = rows.old; gains = gains.old })) ≡ 0 }
-    ensures { StoresSegments (record { cells = cells.entry.now; n = n; d = d }) (shortest_of shortest) forbidden.now (record { layers = layers.entry.now; draws = draws.now; W = w }) result (record { sums = sums.entry.now; rows = rows.old; gains = gains.old }) (record { sums = sums.exit.now; rows = rows.new; gains = gains.new }) }
+    ensures { StoresSegments (record { cells = cells.now; n = n; d = d }) (shortest_of shortest) forbidden.now (record { layers = layers.now; draws = draws.now; W = w }) result (record { sums = sums.old; rows = rows.old; gains = gains.old }) (record { sums = sums.new; rows = rows.new; gains = gains.new }) }
 {
     change_in_mean::calculate_cumsum(cells, d, sums);
     let len = control::sums_len(n, d);
