@@ -1,0 +1,6 @@
+-- The segment's length: both parts are shorter.
+use Rattle.std.proofs.Common.{◌-◌}
+use Rattle.binary_segmentation.proofs.tree.+grow.Given as goal
+
+abbrev pub decreases-grow : goal.decreases-grow
+decreases-grow l = l.stop.0 - l.start.0
