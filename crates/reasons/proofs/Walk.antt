@@ -4,8 +4,6 @@ use mathlib.Core.Bool.{false}
 use mathlib.Core.List.{List, [], ◌∷◌}
 use Prim.Native.Nat.{ℕ, ◌-◌, ◌≤◌, ◌<◌}
 use native.Mathlib.Omega.{arith}
-use types.Run.{OneOf, miss}
-use denote.Enum.Declared.{tag_of}
 use lib.Ieee.{Float}
 use Rattle.scope.specs.Grid.{Record}
 use Rattle.scope.specs.Layers.{StoredSegment}
@@ -17,10 +15,10 @@ use Rattle.demand.proofs.Cut.{Far, cut_far}
 use Rattle.demand.proofs.Grows.{parts_of}
 use Rattle.demand.proofs.Made.{grown_grows}
 use Rattle.demand.proofs.Place.{place_at, place_left, place_right, leaf_place}
+use Rattle.optimizer.specs.declared.optimizer_result.GainRecord.{GainRecord}
 use Rattle.verdict.specs.declared.Asked.{Asked}
 use Rattle.verdict.specs.declared.Verdict.{Verdict}
 use Rattle.verdict.specs.declared.Verdict.TheVariants.{WithoutChoice, Uncut, Cut}
-use Rattle.verdict.specs.contracts.Verdict.{the_type}
 use Rattle.verdict.specs.Rules.{run_over, over, Rules}
 use Rattle.reasons.specs.declared.Why.TheVariants as why
 use Rattle.rows.specs.Segments.{from_segment}
@@ -28,10 +26,10 @@ use Rattle.optimizer.specs.Records.{from_origin}
 use Rattle.reasons.specs.Answers.{from_why}
 
 -- a verdict that is none of a cut
-pub not_cut : (q : Run) (rs : List Record) (start stop : ℕ) (v : Verdict) → OneOf (0 ∷ 1 ∷ []) (tag_of the_type v) → Rules q rs start stop v → is_cut (verdict q rs start stop) ≡ false
+pub not_cut : (q : Run) (rs : List Record) (start stop : ℕ) (v : Verdict) → ((d c : GainRecord) → v ≡ Cut d c → ⊥) → Rules q rs start stop v → is_cut (verdict q rs start stop) ≡ false
 not_cut q rs start stop WithoutChoice h (d, v) = ap is_cut v
 not_cut q rs start stop (Uncut d c) h (e, v) = ap is_cut v
-not_cut q rs start stop (Cut d c) h r = absurd (miss (0 ∷ 1 ∷ []) 2 tt h)
+not_cut q rs start stop (Cut d c) h r = absurd (h d c refl)
 
 -- a run over prefix sums, the records rs of whose stored segments stand; a row x of it
 module _ (sums : List Float) (forbidden : List ℕ) (s : Asked) (n : ℕ) (rs : List Record) (x : ℕ) where
