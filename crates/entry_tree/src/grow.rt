@@ -19,7 +19,7 @@ pub fn grow(
     nodes: &mut [Node],
     cuts: &mut [usize],
 ) -> Grown
-    requires { Readied prepared sums.now forbidden.now asked n (record { rows = rows.now; gains = gains.old; nodes = nodes.old; cuts = cuts.old }) }
+    requires { Readied prepared sums.now forbidden.now asked n (record { rows = rows.old; gains = gains.old; nodes = nodes.old; cuts = cuts.old }) }
     ensures { GrownFrom prepared sums.now forbidden.now asked n result (record { rows = rows.old; gains = gains.old; nodes = nodes.old; cuts = cuts.old }) (record { rows = rows.new; gains = gains.new; nodes = nodes.new; cuts = cuts.new }) }
 {
     match prepared {

@@ -259,7 +259,7 @@ pub fn store_segments(
     rows: &mut [usize],
     gains: &mut [f64],
 ) -> usize
-    requires { stored_refusal (stored_asked (record { cells = cells.now; n = n; d = d }) (shortest_of shortest) forbidden.now (record { layers = layers.now; draws = draws.now; W = w }) (record { sums = sums.now; rows = rows.old; gains = gains.old })) ≡ 0 }
+    requires { stored_refusal (stored_asked (record { cells = cells.now; n = n; d = d }) (shortest_of shortest) forbidden.now (record { layers = layers.now; draws = draws.now; W = w }) (record { sums = sums.old; rows = rows.old; gains = gains.old })) ≡ 0 }
     ensures { StoresSegments (record { cells = cells.now; n = n; d = d }) (shortest_of shortest) forbidden.now (record { layers = layers.now; draws = draws.now; W = w }) result (record { sums = sums.old; rows = rows.old; gains = gains.old }) (record { sums = sums.new; rows = rows.new; gains = gains.new }) }
 {
     change_in_mean::calculate_cumsum(cells, d, sums);
