@@ -5,7 +5,6 @@ use Prim.Native.Nat.{ℕ, suc, ◌+◌, ◌-◌, ◌*◌, ◌≤◌, ◌<◌}
 use native.Mathlib.Nat.{add-mul, zero-mul}
 use native.Mathlib.Numerals.{add-one}
 use native.Mathlib.Omega.{arith}
-use borrow.Author.Rules.{rules}
 use borrow.Rule.Slice.PartMut.{put_mid}
 use lib.Ieee.{Float}
 use lib.ListN.{length, take, drop, length-append, length-drop, take-append-drop}
@@ -17,19 +16,14 @@ use Rattle.distances.specs.Matrix.{Matrix}
 use Rattle.order.proofs.Parts.{put_more}
 use Rattle.scope.proofs.Signs.{length_distances}
 use Rattle.distances.proofs.Distances.{row_in, square_small, length_orders, distances_numeric}
-use Rattle.distances.proofs.calculate_ordering.Statement.{statement}
+use Rattle.distances.proofs.calculate_ordering.Goals as goal
+use Rattle.distances.proofs.calculate_ordering.Lts as lts
 use Rattle.distances.proofs.calculate_ordering.Tie as tie
+use Rattle.distances.proofs.calculate_ordering.Reads as reads
+use Rattle.distances.proofs.calculate_ordering.Invariants.{State}
 
-record State (cells : List Float) (n d : ℕ) (ordering₀ ordering : List ℕ) (ds₀ ds : List Float) (i : ℕ) : Type 0 where
-  matrix : Matrix cells n d
-  room : n * n ≤ length ordering₀
-  width : n ≤ length ds₀
-  turns : i ≤ n
-  long : length ordering ≡ length ordering₀
-  wide : length ds ≡ length ds₀
-  held : ordering ≡ orders cells n d i ++ drop (i * n) ordering₀
-  last : (k : ℕ) → i ≡ suc k → take n ds ≡ distances cells d k n
-  kept : drop n ds ≡ drop n ds₀
+abbrev At-In-loop-i : Type 0
+At-In-loop-i = lts.In-loop tie.the-claims reads.Pre reads.Post goal.the-invariant-loop-i goal.the-decreases-loop-i tie.handed_clauses
 
 start : {cells : List Float} {n d : ℕ} {ordering : List ℕ} {ds : List Float} → Matrix cells n d × (n * n ≤ length ordering) × (n ≤ length ds) → State cells n d ordering ordering ds ds 0
 unfolding orders
@@ -91,47 +85,21 @@ module _ {cells : List Float} {n d : ℕ} {ordering₀ ordering : List ℕ} {ds�
       let k : i ≡ suc (n - 1) = omega (arith, s.matrix.some) in
       (rw (e, ← length_orders cells n d n) at s.held, sym (take-append-drop n ds) ∙ rw (s.last (n - 1) k, s.kept, length_distances cells d (n - 1) n))
 
-abbrev invariant-loop : tie.invariant-loop
-invariant-loop cells n d ordering₀ ds₀ i₀ ordering ds i = State cells n d ordering₀ ordering ds₀ ds i
-
-abbrev decreases-loop : tie.decreases-loop
-decreases-loop cells n d ordering₀ ds₀ i₀ ordering ds i = n - i
-
 -- the row that a turn stores
-row_small : (c : tie.In-loop invariant-loop decreases-loop) → c.before.loop.i * c.before.before.before.before.before.args.n + c.before.before.before.before.before.args.n ≤ 1048576
-row_small c = square_small _ _ c.loop-test.true c.before.loop.invariant.matrix.rows
+row_small : (c : At-In-loop-i) → c.loop-i.i * c.args.n + c.args.n ≤ 1048576
+row_small c = square_small _ _ c.loop-i-test.true c.loop-i.invariant.matrix.rows
 
-distances-from-requires : tie.Need-distances-from-requires invariant-loop decreases-loop
-distances-from-requires c κs =
-    let at = c.before.before.loop.invariant in
+pub distances_from-requires : goal.distances_from-requires
+distances_from-requires c =
+    let at = c.loop-i.invariant in
     let l = first-n at in
     (at.matrix.columns, omega (arith, l, at.matrix.rows), omega (arith, l), rw l at.matrix.table)
 
-loop-again : tie.Need-loop-preserved invariant-loop decreases-loop
-loop-again c = next c.before.before.before.before.before.before.before.before.before.before.loop.invariant c.before.before.before.before.before.before.before.before.before.loop-test.true c.before.before.before.before.before.before.before.distances-from.ensures c.before.before.order_row.ensures
+pub loop-i-preserved : goal.loop-i-preserved
+loop-i-preserved c = next c.loop-i.invariant c.loop-i-test.true c.distances_from.ensures c.order_row.ensures
 
-pub calculate-ordering-spec : {M : Type 1} → statement M
-calculate-ordering-spec =
-    tie.close
-    (tie.spec
-    invariant-loop
-    decreases-loop
-    (λ c. start c.before.before.before.requires)
-    (λ c. omega (arith, row_small c))
-    (λ c. omega (arith, row_small c))
-    (λ c. search rules)
-    (λ c. sym (first-n c.before.before.loop.invariant))
-    distances-from-requires
-    (λ c. let at = c.before.before.before.before.before.loop.invariant in omega (arith, next-width at c.before.before.before.before.loop-test.true c.before.before.distances-from.ensures, at.width))
-    (λ c. sym (front-n c.before.before.before.before.before.before.loop.invariant c.before.before.before.before.before.loop-test.true c.before.before.before.distances-from.ensures))
-    (λ c. omega (arith, row_small c.before.before.before.before.before))
-    (λ c. search rules)
-    (λ c. search rules)
-    (λ c. fits c.before.before.before.before.before.before.loop.invariant c.before.before.before.before.before.loop-test.true)
-    (λ c κs. ready c.before.before.before.before.before.before.before.loop.invariant c.before.before.before.before.before.before.loop-test.true c.before.before.before.before.distances-from.ensures)
-    (λ c. search rules)
-    (λ c. search rules)
-    loop-again
-    (λ c. c.before.loop.invariant.long)
-    (λ c. c.before.loop.invariant.wide)
-    (λ c. finish c.before.loop.invariant c.loop-test.false))
+pub loop-i-init : goal.loop-i-init
+loop-i-init c = start c.requires
+
+pub order_row-requires : goal.order_row-requires
+order_row-requires c = ready c.loop-i.invariant c.loop-i-test.true c.distances_from.ensures
