@@ -1,5 +1,5 @@
 -- The enums' cases, by the definitions' answers.
-use Rattle.std.specs.Prelude.{ℕ, length}
+use Rattle.std.specs.Prelude.{ℕ}
 use Rattle.scope.specs.Refusals.{Answer, refused, given}
 use Rattle.entry_lengths.specs.declared.Length.{Length}
 use Rattle.entry_lengths.specs.declared.Length.TheVariants as «length»

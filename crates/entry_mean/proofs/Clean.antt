@@ -1,7 +1,7 @@
 -- What holds where a call is not refused. Assumes nothing.
 use mathlib.Core.Path.{◌≡◌}
 use mathlib.Core.List.{[], ◌∷◌}
-use Prim.Native.Nat.{◌-◌, ◌≤◌}
+use Prim.Native.Nat.{◌≤◌}
 use native.Mathlib.Omega.{arith}
 use borrow.Author.Tests.{ltb-false}
 use Rattle.scope.specs.Refusals.{first_of, no9}
@@ -9,7 +9,7 @@ use Rattle.scope.specs.Candidates.{range_size, no10}
 use Rattle.scope.specs.Calls.{CandidatesAsked, candidates_tests, candidates_refusal, GainAsked, gain_tests, gain_refusal, SearchAsked, search_tests, search_refusal}
 use Rattle.change_in_mean.proofs.Room.{SumsClean, sums_clean}
 use Rattle.scope.proofs.Candidates.{not_outside}
-use Rattle.control.proofs.Sizes.{matrix, segment, split_in}
+use Rattle.control.proofs.Sizes.{segment, split_in}
 use Rattle.control.proofs.Clean.{passed}
 
 -- ---- candidates
