@@ -4,7 +4,6 @@ use mathlib.Core.List.{List, ◌++◌}
 use Prim.Native.Nat.{ℕ, zero, suc, ◌+◌, ◌-◌, ◌*◌, ◌^◌, ◌≤◌, ◌<◌}
 use native.Mathlib.Numerals.{add-one}
 use native.Mathlib.Omega.{arith}
-use borrow.Author.Rules.{rules}
 use lib.Dec.{T, leb, le→leb}
 use lib.IntN.{pos}
 use lib.Ieee.{Float, binary64, in_float}
@@ -17,17 +16,14 @@ use Rattle.scope.proofs.Lists.{store_more}
 use Rattle.rounding.proofs.Root.{square_ge, root_is}
 use Rattle.distances.specs.Matrix.{Filled}
 use Rattle.distances.proofs.Distances.{row_in, square_small, length_order, length_orders, order_at}
-use Rattle.knn.proofs.predict.Statement.{statement}
+use Rattle.knn.proofs.predict.Goals as goal
+use Rattle.knn.proofs.predict.Lts as lts
 use Rattle.knn.proofs.predict.Tie as tie
+use Rattle.knn.proofs.predict.Reads as reads
+use Rattle.knn.proofs.predict.Invariants.{State}
 
--- L is the segment's length, k its root
-record State (cells : List Float) (n d start stop split L k : ℕ) (out₀ out : List Float) (i : ℕ) : Type 0 where
-  segment : L ≡ stop - start
-  root : k ≡ whole_root L
-  few : k ≤ L
-  turns : i ≤ L
-  long : length out ≡ length out₀
-  held : out ≡ predictions cells n d start stop split i ++ drop i out₀
+abbrev At-After-struct_known-1 : Type 0
+At-After-struct_known-1 = lts.After-struct_known tie.the-claims reads.Pre reads.Post goal.the-invariant-loop-i goal.the-decreases-loop-i tie.handed_clauses
 
 length-predictions : (cells : List Float) (n d start stop split i : ℕ) → length (predictions cells n d start stop split i) ≡ i
 unfolding predictions
@@ -76,56 +72,29 @@ small : (n : ℕ) → n ≤ 1024 → T (in_float binary64 (pos n))
 unfolding in_float
 small n h = le→leb n (2 ^ 53) (omega arith)
 
-abbrev invariant-loop : tie.invariant-loop
-invariant-loop cells n d ordering start stop split out₀ L k i₀ out i = State cells n d start.0 stop.0 split.0 L k out₀ out i
-
-abbrev decreases-loop : tie.decreases-loop
-decreases-loop cells n d ordering start stop split out₀ L k i₀ out i = L - i
-
 -- the row of a turn
-row-there : (c : tie.After-struct-known invariant-loop decreases-loop) → c.before.position_from.result.0 < c.before.before.before.before.before.before.before.before.before.args.n
-row-there c = omega (arith, c.before.before.before.before.before.before.before.before.before.requires)
+row-there : (c : At-After-struct_known-1) → c.position_from-row.result.0 < c.args.n
+row-there c = omega (arith, c.requires)
 
-row_small : (c : tie.After-struct-known invariant-loop decreases-loop) → c.before.position_from.result.0 * c.before.before.before.before.before.before.before.before.before.args.n + c.before.before.before.before.before.before.before.before.before.args.n ≤ 1048576
-row_small c = square_small _ _ (row-there c) c.before.before.before.before.before.before.before.before.before.requires.0.rows
+row_small : (c : At-After-struct_known-1) → c.position_from-row.result.0 * c.args.n + c.args.n ≤ 1048576
+row_small c = square_small _ _ (row-there c) c.requires.0.rows
 
-count-past-requires : tie.Need-count-past-requires invariant-loop decreases-loop
-count-past-requires c κs =
-    let p = c.before.before.before.before.before.before.before.before.before.before.requires in
-    let at = c.before.before.before.before.loop.invariant in
-    (omega (arith, row-length p.0 (row-there c.before), p.0.rows), at.root ∙ ap whole_root at.segment)
+pub loop-i-init : goal.loop-i-init
+loop-i-init c = begin c.offset_in-segment_length.ensures c.whole_root-k.ensures
 
-loop-again : tie.Need-loop-preserved invariant-loop decreases-loop
-loop-again c =
-    let p = c.before.before.before.before.before.before.before.before.before.before.before.before.before.requires in
-    let at = c.before.before.before.before.before.before.before.loop.invariant in
-    let more = c.before.before.before.before.before.before.loop-test.true in
-    let count = count-is p.0 (row-there c.before.before.before.before) _ _ _ _ c.before.before.before.before.before.position_from.ensures c.before.before.count_past.ensures.0 in
+pub slice_bounds-count_past-end : goal.slice_bounds-count_past-end
+slice_bounds-count_past-end c = let there : c.position_from-row.result.0 < c.args.n = omega (arith, c.requires) in fits c.requires.0 there
+
+pub count_past-count-requires : goal.count_past-count-requires
+count_past-count-requires c =
+    let p = c.requires in
+    let at = c.loop-i.invariant in
+    (omega (arith, row-length p.0 (row-there c.before.before), p.0.rows), at.root ∙ ap whole_root at.segment)
+
+pub loop-i-preserved : goal.loop-i-preserved
+loop-i-preserved c =
+    let p = c.requires in
+    let at = c.loop-i.invariant in
+    let more = c.loop-i-test.true in
+    let count = count-is p.0 (row-there c.before.before.before.before.before) _ _ _ _ c.position_from-row.ensures c.count_past-count.ensures.count in
     next at more (omega (arith, more, p.3, at.segment)) count
-
-pub predict-spec : {M : Type 1} → statement M
-predict-spec =
-    tie.close
-    (tie.spec
-    invariant-loop
-    decreases-loop
-    (λ c κs. search rules)
-    (λ c κs. search rules)
-    (λ c. begin c.before.offset-in.ensures c.whole-root.ensures)
-    (λ c κs. omega (arith, c.before.loop.invariant.segment, c.before.before.before.before.before.before.before.requires))
-    (λ c. omega (arith, row_small c))
-    (λ c. omega (arith, row_small c))
-    (λ c. omega (arith, row_small c))
-    (λ c. search rules)
-    (λ c. search rules)
-    (λ c. fits c.before.before.before.before.before.before.before.before.before.requires.0 (row-there c))
-    count-past-requires
-    (λ c. small _ (omega (arith, c.before.before.before.before.before.before.before.before.before.before.before.before.requires, c.before.count_past.ensures.1, c.before.before.before.before.before.before.loop.invariant)))
-    (λ c. small _ (omega (arith, c.before.before.before.before.before.before.before.before.before.before.before.before.before.requires, c.before.before.before.before.before.before.before.loop.invariant)))
-    (λ c. search rules)
-    (λ c. omega (arith, c.before.before.before.before.before.before.before.before.before.before.before.before.before.requires.3, c.before.before.before.before.before.before.before.loop.invariant))
-    (λ c. search rules)
-    (λ c. search rules)
-    loop-again
-    (λ c. c.before.loop.invariant.long)
-    (λ c. finish c.before.loop.invariant c.loop-test.false))

@@ -1,24 +1,18 @@
 -- `classifier::knn::count_past` meets its contract. What is counted, and what there is to count in the rest of the order, are the whole. Assumes nothing.
 use mathlib.Core.Path.{◌≡◌, sym, ◌∙◌}
-use mathlib.Core.Logic.{⊎_elim}
 use mathlib.Core.Bool.{Bool, true, false}
 use mathlib.Core.List.{List, ◌∷◌}
 use Prim.Native.Nat.{ℕ, suc, ◌+◌, ◌-◌, ◌≤◌, ◌<◌}
 use native.Mathlib.Numerals.{add-one}
 use native.Mathlib.Omega.{arith}
-use borrow.Author.Rules.{rules}
 use borrow.Author.Tests.{le-leb, lt-leb}
 use lib.Dec.{leb}
 use lib.ListN.{length, get_or, drop, drop_of_length-le}
 use lib.Seq.{drop-cons}
 use Rattle.knn.proofs.Counts.{near, counted, counted_none, counted_end, counted_out, counted_past, counted_before, counted_whole}
-use Rattle.knn.proofs.count_past.Statement.{statement}
-use Rattle.knn.proofs.count_past.Tie as tie
-
-record State (order : List ℕ) (row start stop split k seen count at : ℕ) : Type 0 where
-  few : count ≤ seen
-  most : seen ≤ k
-  held : count + counted row start stop split (k - seen) (drop at order) ≡ counted row start stop split k order
+use Rattle.knn.proofs.count_past.Goals as goal
+use Rattle.knn.proofs.count_past.Goals.{then-is_neighbour+then-split-other, then-is_neighbour+else-split-other, else-is_neighbour}
+use Rattle.knn.proofs.count_past.Invariants.{State}
 
 begin : (order : List ℕ) (row start stop split k : ℕ) → State order row start stop split k 0 0 0
 begin order row start stop split k = let e : k - 0 ≡ k = omega arith in record { few = omega arith; most = omega arith; held = rw e (omega arith) }
@@ -49,55 +43,27 @@ module _ {order : List ℕ} {row start stop split k seen count at : ℕ} (s : St
   stop-end : length order ≤ at → count ≡ counted row start stop split k order
   stop-end h = omega (arith, rw (drop_of_length-le order h, counted_end row start stop split (k - seen)) at s.held)
 
-abbrev invariant-loop : tie.invariant-loop
-invariant-loop order row start stop split k seen₀ count₀ at₀ at-end seen count at = State order row.0 start.0 stop.0 split.0 k seen count at
+pub loop-at-init : goal.loop-at-init
+loop-at-init c = begin _ _ _ _ _ _
 
-abbrev decreases-loop : tie.decreases-loop
-decreases-loop order row start stop split k seen₀ count₀ at₀ at-end seen count at = length order - at
+pub returns-then-seen-k : goal.returns-then-seen-k
+returns-then-seen-k c =
+    let at = c.loop-at in
+    record { count = stop-full at.invariant c.if-seen-k.true ∙ counted_whole _ _ _ _ _ _ c.requires.1; few = omega (arith, at.invariant.few, at.invariant.most) }
 
-loop-holds : tie.Need-loop-init invariant-loop decreases-loop
-loop-holds c = begin _ _ _ _ _ _
+pub loop-at-preserved : goal.loop-at-preserved
+loop-at-preserved c =
+    let at = c.loop-at in
+    let more = c.loop-at-test.true in
+    let room = c.if-seen-k.false in
+    let r = c.is_neighbour.ensures in
+    elim c.if-is_neighbour.branch [
+      | then-is_neighbour+then-split-other w ↦ rw (w.seen-is, w.count-is) (past at.invariant more room r w.if-is_neighbour.true (le-leb _ _ w.if-split-other.true))
+      | then-is_neighbour+else-split-other w ↦ rw (w.seen-is, w.count-is) (before at.invariant more room r w.if-is_neighbour.true (lt-leb _ _ w.if-split-other.false))
+      | else-is_neighbour w ↦ rw (w.seen-is, w.count-is) (outside at.invariant more room r w.if-is_neighbour.false)
+    ]
 
-returns : tie.Need-returns invariant-loop decreases-loop
+pub returns : goal.returns
 returns c =
-    let s = c.before.before.before.before in
-    let at = c.before.before.loop in
-    (stop-full at.invariant c.if1.true ∙ counted_whole _ _ _ _ _ _ s.requires.1, omega (arith, at.invariant.few, at.invariant.most))
-
-loop-again : tie.Need-loop-preserved invariant-loop decreases-loop
-loop-again c =
-    let at = c.before.before.before.before.before.loop in
-    let more = c.before.before.before.before.loop-test.true in
-    let room = c.before.before.before.if1.false in
-    let r = c.before.is-neighbour.ensures in
-    ⊎_elim
-    (λ w. rw (w.4, w.5) (past at.invariant more room r w.0.taken (le-leb _ _ w.3.taken)))
-    (⊎_elim
-    (λ w. rw (w.4, w.5) (before at.invariant more room r w.0.taken (lt-leb _ _ w.3.left)))
-    (λ w. rw (w.1, w.2) (outside at.invariant more room r w.0.left)))
-    c.if2.branch
-
-returns-2 : tie.Need-returns-2 invariant-loop decreases-loop
-returns-2 c =
-    let s = c.before.before.before in
-    let at = c.before.loop in
-    (stop-end at.invariant c.loop-test.false ∙ counted_whole _ _ _ _ _ _ s.requires.1, omega (arith, at.invariant.few, at.invariant.most))
-
-pub count-past-spec : {M : Type 1} → statement M
-count-past-spec =
-    tie.close
-    (tie.spec
-    invariant-loop
-    decreases-loop
-    loop-holds
-    returns
-    (λ c. search rules)
-    (λ c. search rules)
-    (λ c. omega (arith, c.shared-slice-known2.given c.before.before.before.loop.at))
-    (λ c κs. search rules)
-    (λ c. search rules)
-    (λ c. search rules)
-    (λ c. search rules)
-    (λ c. search rules)
-    loop-again
-    returns-2)
+    let at = c.loop-at in
+    record { count = stop-end at.invariant c.loop-at-test.false ∙ counted_whole _ _ _ _ _ _ c.requires.1; few = omega (arith, at.invariant.few, at.invariant.most) }
