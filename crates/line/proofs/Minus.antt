@@ -1,5 +1,5 @@
 -- A cell with a minus: the float of its magnitude, negated, is its float. Assumes nothing.
-use Rattle.std.proofs.Common.{◌≡◌, ℕ, zero, suc, ◌+◌, ◌*◌, ◌^◌, Bool, true, false, cond, not, ltb, leb, pos, negsuc, sym, refl, ap, ◌∙◌, le-ltb, lt-ltb, leb-false, leb-true}
+use Rattle.std.proofs.Common.{◌≡◌, ℕ, zero, suc, true, not, ltb, leb, pos, negsuc, refl, le-ltb, lt-ltb, leb-false, leb-true}
 use mathlib.Core.Option.{some}
 use lib.Dec.{leb-suc-suc}
 use lib.Ieee.{Format, binary64, neg, of_int}
