@@ -1,4 +1,4 @@
--- How the input is read: its first bytes into a lent buffer, the rest in lots. No contract of the C library's says which bytes a read delivers, so of the lots each
+-- How the input is read: its first bytes into a lent buffer, the rest in lots. No contract says which bytes a read of standard input delivers, so of the lots each
 -- statement is of some bytes.
 use Rattle.std.specs.Prelude.{◌≡◌, List, ℕ, ◌+◌, ◌*◌, ◌^◌, ◌≤◌, Float, length}
 use Rattle.scope.specs.Program.{read_input}

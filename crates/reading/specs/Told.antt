@@ -1,4 +1,4 @@
--- What a program's text answers. The input's first bytes stand in a lent buffer, which is named. No contract of the C library's says which bytes a read
+-- What a program's text answers. The input's first bytes stand in a lent buffer, which is named. No contract says which bytes a read of standard input
 -- delivers, so of those behind them only this is said, that there are some.
 use Rattle.std.specs.Prelude.{◌≡◌, List, ◌++◌, ℕ, ◌≤◌, length, take}
 

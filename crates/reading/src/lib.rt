@@ -1,17 +1,21 @@
 // Standard input, read and fed to `deck`. Its first bytes are kept in a lent buffer, more of them than a deck that has a sheet can have, so that contracts can
 // name them; what is longer is read in lots. Inside the library.
-// That the bytes which `libc::read` stores are the input's, one call after another, no contract says: `keep` and `read_lot` are to be read.
+// The reader is any of std's. That the bytes which a read of standard input stores are the input's, one call after another, no contract says: `keep` and
+// `read_lot` are to be read.
 #![tactic(auto)]
 
 ghost use Rattle.std.specs.Prelude.{◌≤◌, length};
 ghost use Rattle.reading.specs.Taken.{Filled, Fetched, Rested, Taken};
 
 use deck::{Read, State};
-use libc::STDIN_FILENO;
 use line::{BARRED, MOST_CELLS};
+use std::io;
 
 // How many bytes are kept. A deck with a sheet has less than 25,000: 64 pairs, and 2,048 cells of six bytes, each on a line of its own at most.
 pub const KEPT: usize = 65536;
+
+// So many bytes has a lot at most.
+const LOT: usize = 65536;
 
 // A proved loop has to end, and nothing says that the input does: the turns are counted down from a number that no run uses up, and that keeps every line's
 // number in a `usize`.
@@ -40,47 +44,49 @@ pub enum Input {
 }
 
 // Reads until the buffer is full or the input ends.
-fn keep(kept: &mut [u8]) -> First
+fn keep<R: io::Read>(input: &mut R, kept: &mut [u8]) -> First
     ensures { Filled kept.new result }
 {
     let mut n = 0;
     while n < kept.len() {
-        let got = libc::read(STDIN_FILENO, &mut kept[n..]);
-        if got < 0 {
-            return First::Failed;
+        match input.read(&mut kept[n..]) {
+            Ok(0) => return First::Bytes(n),
+            Ok(more) => n += more,
+            Err(_) => return First::Failed,
         }
-        let more = io::count(got, &kept[n..]);
-        if more == 0 {
-            return First::Bytes(n);
-        }
-        n += more;
     }
     First::Bytes(n)
 }
 
-fn read_lot(s: State, cells: &mut [f64; MOST_CELLS], forbidden: &mut [usize; BARRED]) -> Lot
+fn read_lot<R: io::Read>(
+    input: &mut R,
+    s: State,
+    cells: &mut [f64; MOST_CELLS],
+    forbidden: &mut [usize; BARRED],
+) -> Lot
     ensures { Fetched s cells.old forbidden.old cells.new forbidden.new result }
 {
-    let mut lot = io::large_buffer();
-    let got = libc::read(STDIN_FILENO, &mut lot);
-    if got < 0 {
-        return Lot::Failed;
+    let mut lot = [0u8; LOT];
+    match input.read(&mut lot) {
+        Ok(0) => Lot::Ended,
+        Ok(n) => Lot::More(deck::feed(s, &lot[..n], cells, forbidden)),
+        Err(_) => Lot::Failed,
     }
-    let n = io::count(got, &lot);
-    if n == 0 {
-        return Lot::Ended;
-    }
-    Lot::More(deck::feed(s, &lot[..n], cells, forbidden))
 }
 
 // Reads on to the end.
-fn read_rest(first: State, cells: &mut [f64; MOST_CELLS], forbidden: &mut [usize; BARRED]) -> Input
+fn read_rest<R: io::Read>(
+    input: &mut R,
+    first: State,
+    cells: &mut [f64; MOST_CELLS],
+    forbidden: &mut [usize; BARRED],
+) -> Input
     ensures { Rested first cells.old forbidden.old cells.new forbidden.new result }
 {
     let mut s = first;
     let mut turns = TURNS;
     while turns > 0 {
-        match read_lot(s, cells, forbidden) {
+        match read_lot(input, s, cells, forbidden) {
             Lot::More(next) => s = next,
             Lot::Ended => return Input::Read(deck::finish(s)),
             Lot::Failed => return Input::Failed,
@@ -91,7 +97,8 @@ fn read_rest(first: State, cells: &mut [f64; MOST_CELLS], forbidden: &mut [usize
 }
 
 // The whole input's reading. An input that can't be read to its end has none.
-pub fn read_all(
+pub fn read_all<R: io::Read>(
+    input: &mut R,
     kept: &mut [u8],
     cells: &mut [f64; MOST_CELLS],
     forbidden: &mut [usize; BARRED],
@@ -99,12 +106,12 @@ pub fn read_all(
     requires { length kept.old ≤ 65536 }
     ensures { Taken kept.new cells.old forbidden.old cells.new forbidden.new result }
 {
-    let First::Bytes(n) = keep(kept) else {
+    let First::Bytes(n) = keep(input, kept) else {
         return Input::Failed;
     };
     let s = deck::feed(deck::start(), &kept[..n], cells, forbidden);
     if n < kept.len() {
         return Input::Read(deck::finish(s));
     }
-    read_rest(s, cells, forbidden)
+    read_rest(input, s, cells, forbidden)
 }

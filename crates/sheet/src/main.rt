@@ -1,7 +1,7 @@
 // The program: reads a deck from standard input; writes its sheet, its refusal, or the number of its first malformed line to standard output.
 // It only reads, calls and writes. `run` says that its text is the program's (crates/scope/specs/Program.antt) for the bytes that stand in `kept`, or, where the
 // input is longer than that, for those and some behind them. That they are the input's, and that its text is what is written, no contract can say: both are to be
-// read, here and in crates/reading. Nor can a program set its exit status: where it can't read or write it says so on standard error, and it writes no other sheet.
+// read, here and in crates/reading. Its exit status is 0 whatever comes: where it can't read or write it says so on standard error, and it writes no other sheet.
 #![tactic(auto)]
 
 ghost use Rattle.std.specs.Prelude.{◌≤◌, length, take};
@@ -9,20 +9,20 @@ ghost use Rattle.demand.specs.Printed.{Answers};
 ghost use Rattle.reading.specs.Told.{Told};
 
 use answers::{CUTS, RECORDS, ROWS, TEXT};
-use libc::{STDERR_FILENO, STDOUT_FILENO};
 use limits::SUMS;
 use line::{BARRED, MOST_CELLS};
 use reading::{Input, KEPT};
+use std::io;
 
 // The text for the input, and how many bytes it has: none where the input could not be read.
-fn run(kept: &mut [u8], out: &mut [u8; TEXT]) -> usize
+fn run<R: io::Read>(input: &mut R, kept: &mut [u8], out: &mut [u8; TEXT]) -> usize
     requires { length kept.old ≤ 65536 }
     ensures told { Told Answers kept.new (take result out.new) }
     ensures most { result ≤ length out.new }
 {
     let mut cells = [0.0; MOST_CELLS];
     let mut forbidden = [0usize; BARRED];
-    let Input::Read(read) = reading::read_all(kept, &mut cells, &mut forbidden) else {
+    let Input::Read(read) = reading::read_all(input, kept, &mut cells, &mut forbidden) else {
         return 0;
     };
     let mut sums = [0.0; SUMS];
@@ -34,15 +34,15 @@ fn run(kept: &mut [u8], out: &mut [u8; TEXT]) -> usize
     )
 }
 
-fn main() {
+fn main(rt: HostRuntime) {
     let mut kept = [0u8; KEPT];
     let mut out = [0u8; TEXT];
-    let n = run(&mut kept, &mut out);
+    let n = run(&mut rt.stdin(), &mut kept, &mut out);
     if n == 0 {
-        io::write_all(STDERR_FILENO, b"sheet: the input could not be read\n");
+        let _ = eprintln!(rt; "sheet: the input could not be read");
         return;
     }
-    if !io::write_all(STDOUT_FILENO, &out[..n]) {
-        io::write_all(STDERR_FILENO, b"sheet: the output could not be written\n");
+    if rt.write_all(&out[..n]).is_err() {
+        let _ = eprintln!(rt; "sheet: the output could not be written");
     }
 }

@@ -2,8 +2,8 @@
 // line to standard output.
 // It only reads, calls and writes. `run` says that an argument's bytes ask no row, or that its text is the program's (crates/scope/specs/WhyText.antt) for the row
 // that they ask and the bytes that stand in `kept`, or, where the input is longer than that, for those and some behind them. That the argument's bytes are those of
-// the one argument, that `kept` has the input's, and that the text is what is written, no contract can say: this is to be read, here and in crates/reading. Nor can
-// a program set its exit status: where it is asked no row, or can't read or write, it says so on standard error, and it writes no other line.
+// the one argument, that `kept` has the input's, and that the text is what is written, no contract can say: this is to be read, here and in crates/reading. Its exit
+// status is 0 whatever comes: where it is asked no row, or can't read or write, it says so on standard error, and it writes no other line.
 #![tactic(auto)]
 
 ghost use Rattle.std.specs.Prelude.{◌≡◌, [], ◌∷◌, ◌≤◌, length, take};
@@ -12,11 +12,12 @@ ghost use Rattle.demand.specs.Printed.{AnswersWhy};
 ghost use Rattle.reading.specs.Told.{Told};
 ghost use Rattle.why.specs.Asked.{asked_of, RowTold};
 
-use libc::{STDERR_FILENO, STDOUT_FILENO};
 use limits::SUMS;
 use line::{BARRED, MOST_CELLS};
 use reading::{Input, KEPT};
 use rows::Position;
+use std::env::{Env, FillError};
+use std::io;
 use token::Digits;
 use why_answers::TEXT;
 
@@ -42,14 +43,19 @@ fn row_of(argument: &[u8]) -> Asked
 }
 
 // The text for a row and the input, and how many bytes it has: none where the input could not be read.
-fn answer_row(row: Position, kept: &mut [u8], out: &mut [u8; TEXT]) -> usize
+fn answer_row<R: io::Read>(
+    input: &mut R,
+    row: Position,
+    kept: &mut [u8],
+    out: &mut [u8; TEXT],
+) -> usize
     requires { length kept.old ≤ 65536 }
     ensures told { Told (AnswersWhy row.0) kept.new (take result out.new) }
     ensures most { result ≤ length out.new }
 {
     let mut cells = [0.0; MOST_CELLS];
     let mut forbidden = [0usize; BARRED];
-    let Input::Read(read) = reading::read_all(kept, &mut cells, &mut forbidden) else {
+    let Input::Read(read) = reading::read_all(input, kept, &mut cells, &mut forbidden) else {
         return 0;
     };
     let mut sums = [0.0; SUMS];
@@ -64,47 +70,40 @@ enum Ran {
 }
 
 // The text for the row that the argument asks. Where it asks none, nothing is read.
-fn run(argument: &[u8], kept: &mut [u8], out: &mut [u8; TEXT]) -> Ran
+fn run<R: io::Read>(argument: &[u8], input: &mut R, kept: &mut [u8], out: &mut [u8; TEXT]) -> Ran
     requires { length kept.old ≤ 65536 }
     ensures { RowTold argument.now kept.new out.new result }
 {
     match row_of(argument) {
         Asked::Nothing => Ran::NoRow,
-        Asked::Row(row) => Ran::Text(answer_row(row, kept, out)),
+        Asked::Row(row) => Ran::Text(answer_row(input, row, kept, out)),
     }
 }
 
 // The one argument behind the program's name, and how many bytes it has: none where there is not one, or where it is longer than a number.
-fn one_argument(argument: &mut [u8; MOST_DIGITS]) -> usize
+fn one_argument(env: &impl Env, argument: &mut [u8; MOST_DIGITS]) -> usize
     ensures { result ≤ length argument.new }
 {
-    if os::arg_count() != 2 {
-        return 0;
+    match env.arg(2, &mut [0u8; 1]) {
+        Err(FillError::NotPresent) => env.arg(1, argument).unwrap_or(0),
+        _ => 0,
     }
-    let n = os::arg(1, argument);
-    if os::errno() != 0 {
-        return 0;
-    }
-    n
 }
 
-fn main() {
+fn main(rt: HostRuntime) {
     let mut argument = [0u8; MOST_DIGITS];
-    let given = one_argument(&mut argument);
+    let given = one_argument(&rt, &mut argument);
     let mut kept = [0u8; KEPT];
     let mut out = [0u8; TEXT];
-    let Ran::Text(n) = run(&argument[..given], &mut kept, &mut out) else {
-        io::write_all(
-            STDERR_FILENO,
-            b"why: one argument is asked: a row's number, 1 to 10 digits\n",
-        );
+    let Ran::Text(n) = run(&argument[..given], &mut rt.stdin(), &mut kept, &mut out) else {
+        let _ = eprintln!(rt; "why: one argument is asked: a row's number, 1 to 10 digits");
         return;
     };
     if n == 0 {
-        io::write_all(STDERR_FILENO, b"why: the input could not be read\n");
+        let _ = eprintln!(rt; "why: the input could not be read");
         return;
     }
-    if !io::write_all(STDOUT_FILENO, &out[..n]) {
-        io::write_all(STDERR_FILENO, b"why: the output could not be written\n");
+    if rt.write_all(&out[..n]).is_err() {
+        let _ = eprintln!(rt; "why: the output could not be written");
     }
 }
