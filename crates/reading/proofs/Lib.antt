@@ -1,2 +1,3 @@
 -- The laws that belong to no one function.
 pub mod Lots
+pub mod Known

@@ -1,5 +1,5 @@
 -- How the input is read: its first bytes into a lent buffer, the rest in lots. No contract says which bytes a read of standard input delivers, so of the lots each
--- statement is of some bytes.
+-- statement is of some bytes. Known.antt says which, where the reader tells its bytes.
 use Rattle.std.specs.Prelude.{◌≡◌, List, ℕ, ◌+◌, ◌*◌, ◌^◌, ◌≤◌, Float, length}
 use Rattle.scope.specs.Program.{read_input}
 use Rattle.deck.specs.declared.State.{State}

@@ -1,5 +1,5 @@
 -- What a program's text answers. The input's first bytes stand in a lent buffer, which is named. No contract says which bytes a read of standard input
--- delivers, so of those behind them only this is said, that there are some.
+-- delivers, so of those behind them only this is said, that there are some. Known.antt says more, where the reader tells its bytes.
 use Rattle.std.specs.Prelude.{◌≡◌, List, ◌++◌, ℕ, ◌≤◌, length, take}
 
 -- the input's bytes: the first n that stand in the buffer; or all that stand there, and some behind them

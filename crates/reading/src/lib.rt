@@ -1,11 +1,12 @@
 // Standard input, read and fed to `deck`. Its first bytes are kept in a lent buffer, more of them than a deck that has a sheet can have, so that contracts can
 // name them; what is longer is read in lots. Inside the library.
-// The reader is any of std's. That the bytes which a read of standard input stores are the input's, one call after another, no contract says: `keep` and
-// `read_lot` are to be read.
+// The reader is any of std's, and the code one for all. Where a reader tells its bytes, as one over memory does, the reading is of all of them, each once and in
+// order (specs/Known.antt). Standard input tells none, so of it the contracts say less (specs/Taken.antt).
 #![tactic(auto)]
 
-ghost use Rattle.std.specs.Prelude.{◌≤◌, length};
+ghost use Rattle.std.specs.Prelude.{◌≤◌, length, IfSome};
 ghost use Rattle.reading.specs.Taken.{Filled, Fetched, Rested, Taken};
+ghost use Rattle.reading.specs.Known.{FilledOf, FetchedOf, RestedOf, TakenOf};
 
 use deck::{Read, State};
 use line::{BARRED, MOST_CELLS};
@@ -45,7 +46,8 @@ pub enum Input {
 
 // Reads until the buffer is full or the input ends.
 fn keep<R: io::Read>(input: &mut R, kept: &mut [u8]) -> First
-    ensures { Filled kept.new result }
+    ensures filled { Filled kept.new result }
+    ensures known { FilledOf (R.remaining input.old) (R.remaining input.new) kept.new result }
 {
     let mut n = 0;
     while n < kept.len() {
@@ -64,7 +66,8 @@ fn read_lot<R: io::Read>(
     cells: &mut [f64; MOST_CELLS],
     forbidden: &mut [usize; BARRED],
 ) -> Lot
-    ensures { Fetched s cells.old forbidden.old cells.new forbidden.new result }
+    ensures fetched { Fetched s cells.old forbidden.old cells.new forbidden.new result }
+    ensures known { FetchedOf (R.remaining input.old) (R.remaining input.new) s cells.old forbidden.old cells.new forbidden.new result }
 {
     let mut lot = [0u8; LOT];
     match input.read(&mut lot) {
@@ -81,7 +84,8 @@ fn read_rest<R: io::Read>(
     cells: &mut [f64; MOST_CELLS],
     forbidden: &mut [usize; BARRED],
 ) -> Input
-    ensures { Rested first cells.old forbidden.old cells.new forbidden.new result }
+    ensures rested { Rested first cells.old forbidden.old cells.new forbidden.new result }
+    ensures known { IfSome (R.remaining input.old) (λ xs. RestedOf xs first cells.old forbidden.old cells.new forbidden.new result) }
 {
     let mut s = first;
     let mut turns = TURNS;
@@ -104,7 +108,8 @@ pub fn read_all<R: io::Read>(
     forbidden: &mut [usize; BARRED],
 ) -> Input
     requires { length kept.old ≤ 65536 }
-    ensures { Taken kept.new cells.old forbidden.old cells.new forbidden.new result }
+    ensures taken { Taken kept.new cells.old forbidden.old cells.new forbidden.new result }
+    ensures known { IfSome (R.remaining input.old) (λ xs. TakenOf xs cells.old forbidden.old cells.new forbidden.new result) }
 {
     let First::Bytes(n) = keep(input, kept) else {
         return Input::Failed;

@@ -1,12 +1,14 @@
 // The program: reads a deck from standard input; writes its sheet, its refusal, or the number of its first malformed line to standard output.
-// It only reads, calls and writes. `run` says that its text is the program's (crates/scope/specs/Program.antt) for the bytes that stand in `kept`, or, where the
-// input is longer than that, for those and some behind them. That they are the input's, and that its text is what is written, no contract can say: both are to be
-// read, here and in crates/reading. Its exit status is 0 whatever comes: where it can't read or write it says so on standard error, and it writes no other sheet.
+// It only reads, calls and writes. `run` says that its text is the program's (crates/scope/specs/Program.antt) for all bytes of its reader, where that tells them.
+// Standard input tells none: for it `run` says that its text is the program's for the bytes that stand in `kept`, or, where the input is longer than that, for those
+// and some behind them. That it is read as any reader is, and that its text is what is written, no contract can say: `main` is to be read. Its exit status is 0
+// whatever comes: where it can't read or write it says so on standard error, and it writes no other sheet.
 #![tactic(auto)]
 
-ghost use Rattle.std.specs.Prelude.{◌≤◌, length, take};
+ghost use Rattle.std.specs.Prelude.{◌≤◌, length, take, IfSome};
 ghost use Rattle.demand.specs.Printed.{Answers};
 ghost use Rattle.reading.specs.Told.{Told};
+ghost use Rattle.reading.specs.Known.{ToldOf};
 
 use answers::{CUTS, RECORDS, ROWS, TEXT};
 use limits::SUMS;
@@ -19,6 +21,7 @@ fn run<R: io::Read>(input: &mut R, kept: &mut [u8], out: &mut [u8; TEXT]) -> usi
     requires { length kept.old ≤ 65536 }
     ensures told { Told Answers kept.new (take result out.new) }
     ensures most { result ≤ length out.new }
+    ensures known { IfSome (R.remaining input.old) (λ xs. ToldOf Answers xs (take result out.new)) }
 {
     let mut cells = [0.0; MOST_CELLS];
     let mut forbidden = [0usize; BARRED];

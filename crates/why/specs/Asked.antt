@@ -4,6 +4,7 @@ use Rattle.std.proofs.Math.Option.{Option, none, some}
 use Rattle.scope.specs.WhyText.{row_asked}
 use Rattle.demand.specs.Printed.{AnswersWhy}
 use Rattle.reading.specs.Told.{Told}
+use Rattle.reading.specs.Known.{ToldOf}
 use Rattle.why.specs.declared.Asked.{Asked}
 use Rattle.why.specs.declared.Asked.TheVariants as asked
 use Rattle.why.specs.declared.Ran.{Ran}
@@ -24,3 +25,13 @@ pub record TextFor (argument kept out : List ℕ) (n : ℕ) : Type 0 where
 abbrev pub RowTold : List ℕ → List ℕ → List ℕ → Ran → Type 0
 RowTold argument kept out ran.NoRow = row_asked (argument ∷ []) ≡ none
 RowTold argument kept out (ran.Text n) = TextFor argument kept out n
+
+-- The same where the reader tells its bytes. They are answered.
+pub record TextOf (argument xs out : List ℕ) (n : ℕ) : Type 0 where
+  pub row : ℕ
+  pub asks : row_asked (argument ∷ []) ≡ some row
+  pub told : ToldOf (AnswersWhy row) xs (take n out)
+
+abbrev pub RowToldOf : List ℕ → List ℕ → List ℕ → Ran → Type 0
+RowToldOf argument xs out ran.NoRow = row_asked (argument ∷ []) ≡ none
+RowToldOf argument xs out (ran.Text n) = TextOf argument xs out n

@@ -1,16 +1,18 @@
 // The program `why ROW`: reads a deck from standard input; writes why the row is not on its sheet, or that it is, the refusal, or the number of the first malformed
 // line to standard output.
 // It only reads, calls and writes. `run` says that an argument's bytes ask no row, or that its text is the program's (crates/scope/specs/WhyText.antt) for the row
-// that they ask and the bytes that stand in `kept`, or, where the input is longer than that, for those and some behind them. That the argument's bytes are those of
-// the one argument, that `kept` has the input's, and that the text is what is written, no contract can say: this is to be read, here and in crates/reading. Its exit
-// status is 0 whatever comes: where it is asked no row, or can't read or write, it says so on standard error, and it writes no other line.
+// that they ask and all bytes of its reader, where that tells them. Standard input tells none: for it `run` says that its text is the program's for the bytes that
+// stand in `kept`, or, where the input is longer than that, for those and some behind them. That the argument's bytes are those of the one argument, that the input
+// is read as any reader is, and that the text is what is written, no contract can say: `main` is to be read, and `one_argument`. Its exit status is 0 whatever comes:
+// where it is asked no row, or can't read or write, it says so on standard error, and it writes no other line.
 #![tactic(auto)]
 
-ghost use Rattle.std.specs.Prelude.{◌≡◌, [], ◌∷◌, ◌≤◌, length, take};
+ghost use Rattle.std.specs.Prelude.{◌≡◌, [], ◌∷◌, ◌≤◌, length, take, IfSome};
 ghost use Rattle.scope.specs.WhyText.{row_asked};
 ghost use Rattle.demand.specs.Printed.{AnswersWhy};
 ghost use Rattle.reading.specs.Told.{Told};
-ghost use Rattle.why.specs.Asked.{asked_of, RowTold};
+ghost use Rattle.reading.specs.Known.{ToldOf};
+ghost use Rattle.why.specs.Asked.{asked_of, RowTold, RowToldOf};
 
 use limits::SUMS;
 use line::{BARRED, MOST_CELLS};
@@ -52,6 +54,7 @@ fn answer_row<R: io::Read>(
     requires { length kept.old ≤ 65536 }
     ensures told { Told (AnswersWhy row.0) kept.new (take result out.new) }
     ensures most { result ≤ length out.new }
+    ensures known { IfSome (R.remaining input.old) (λ xs. ToldOf (AnswersWhy row.0) xs (take result out.new)) }
 {
     let mut cells = [0.0; MOST_CELLS];
     let mut forbidden = [0usize; BARRED];
@@ -72,7 +75,8 @@ enum Ran {
 // The text for the row that the argument asks. Where it asks none, nothing is read.
 fn run<R: io::Read>(argument: &[u8], input: &mut R, kept: &mut [u8], out: &mut [u8; TEXT]) -> Ran
     requires { length kept.old ≤ 65536 }
-    ensures { RowTold argument.now kept.new out.new result }
+    ensures told { RowTold argument.now kept.new out.new result }
+    ensures known { IfSome (R.remaining input.old) (λ xs. RowToldOf argument.now xs out.new result) }
 {
     match row_of(argument) {
         Asked::Nothing => Ran::NoRow,

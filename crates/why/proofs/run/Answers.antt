@@ -11,8 +11,8 @@ asks_row : (o : Option ℕ) (row : Position) → asked.Row row ≡ asked_of o �
 asks_row none row e = never (cc)
 asks_row (some x) row e = let is : row ≡ record { 0 = x } = cc in ap some (sym (ap (λ (p : Position). p.0) is))
 
-pub returns-in-Row : goal.returns-in-Row
-returns-in-Row g c =
+pub returns-in-Row-clause-told : goal.returns-in-Row-clause-told
+returns-in-Row-clause-told g c =
     record {
       row = c.in-Row.row.0;
       asks = asks_row _ _ c.in-Row.ensures;
