@@ -11,8 +11,7 @@ use Rattle.reasons.specs.Answers.{to_why}
 use Rattle.reasons.specs.contracts.Why.{the_type}
 use Rattle.report.proofs.Texts.{written_length}
 use borrow.Author.Rules.{rules}
-use Rattle.entry_why.proofs.put_text.Statement.{statement}
-use Rattle.entry_why.proofs.put_text.Tie as tie
+use Rattle.entry_why.proofs.put_text.Goals as goal
 
 -- what is no cut has no text
 no_text : (w : Why) → OneOf (1 ∷ 2 ∷ 3 ∷ 4 ∷ []) (tag_of the_type w) → text_of (to_why w) ≡ []
@@ -22,17 +21,14 @@ no_text (Barred a b g) h = refl
 no_text (NoNumber g) h = refl
 no_text (NotAbove gain g) h = refl
 
-returns : tie.Need-returns
-returns c = rw (no_text _ c.match.keys2) (record { end_is = refl; after_is = refl })
+pub returns-in_default : goal.returns-in_default
+returns-in_default c = rw (no_text _ c.in_default.keys2) (record { end_is = refl; after_is = refl })
 
-put-origin-requires : tie.Need-put-origin-requires
-put-origin-requires c κs = let fits = rw c.before.before.found.given.1 at c.before.before.before.before.before.requires in omega (arith, fits)
+pub put_origin-requires : goal.put_origin-requires
+put_origin-requires c = let fits = rw c.in-Cut.is at c.requires in omega (arith, fits)
 
-same_length : tie.Need-same-length
-same_length c = written_length c.before.before.put-origin.ensures.0
+pub shape_of-text : goal.shape_of-text
+shape_of-text c = written_length c.put_origin.ensures.written
 
-returns-2 : tie.Need-returns-2
-returns-2 c = rw c.before.before.before.before.before.found.given.1 c.before.before.put-origin.ensures.0
-
-pub put-text-spec : {M : Type 1} → statement M
-put-text-spec = tie.close (tie.spec (λ c. search rules) returns put-origin-requires same_length returns-2)
+pub returns : goal.returns
+returns c = rw c.in-Cut.is c.put_origin.ensures.written

@@ -1,0 +1,8 @@
+-- `put` meets its contract: past the end nothing is stored.
+use mathlib.Core.Path.{sym}
+use lib.Seq.{set_out}
+use borrow.Author.Rules.{rules}
+use Rattle.told.proofs.put.Goals as goal
+
+pub returns-then-at-counts : goal.returns-then-at-counts
+returns-then-at-counts c = let s = c.args in sym record { counts = set_out s.counts.now s.at s.count c.if-at-counts.true }
