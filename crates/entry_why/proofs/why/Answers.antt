@@ -73,7 +73,7 @@ sums_len-len-requires c = let w = (clean c.before.before.before.before.before.be
 
 -- ---- once the sums and the records stand
 abbrev front : At-After-sums_len-len → Slices
-front c = let l = c.before.before.before.before.before.before.before.store-segments.new.1.1.1.1.1.1.1.1 in record { sums = l.0; rows = l.1.0; gains = l.1.1.0 }
+front c = let l = c.store_segments-count.new in record { sums = l.sums; rows = l.rows; gains = l.gains }
 
 held : (c : At-After-sums_len-len) → Held (sums_of (matrix c.before.before.before.before.before.before.before.before.before.before.before.before.before.before.before.before.before.before.before.before.before.before.before)) (stored_records (run_of (matrix c.before.before.before.before.before.before.before.before.before.before.before.before.before.before.before.before.before.before.before.before.before.before.before) (settings c.before.before.before.before.before.before.before.before.before.before.before.before.before.before.before.before.before.before.before.before.before.before.before))) (lent c.before.before.before.before.before.before.before.before.before.before.before.before.before.before.before.before.before.before.before.before.before.before.before) (front c)
 unfolding stored_records

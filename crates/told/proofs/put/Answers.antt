@@ -5,4 +5,4 @@ use borrow.Author.Rules.{rules}
 use Rattle.told.proofs.put.Goals as goal
 
 pub returns-then-at-counts : goal.returns-then-at-counts
-returns-then-at-counts c = let s = c.args in sym record { counts = set_out s.counts.now s.at s.count c.if-at-counts.true }
+returns-then-at-counts c = let s = c.args in record { counts = sym (set_out s.counts.now s.at s.count c.if-at-counts.true) }

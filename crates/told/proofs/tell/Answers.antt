@@ -8,9 +8,8 @@ use Rattle.told.proofs.tell.Goals as goal
 
 pub returns-in-Counted : goal.returns-in-Counted
 returns-in-Counted c =
-    let found = c.grown-1.given.0 in
     let one = c.put.ensures.counts in
-    let two = c.put-in-Counted.ensures.counts ∙ ap (λ (l : List ℕ). set l 1 found.0.records) one in
-    let three = c.put-in-Counted-2.ensures.counts ∙ ap (λ (l : List ℕ). set l 2 found.0.cuts) two in
-    let four = c.put-in-Counted-3.ensures.counts ∙ ap (λ (l : List ℕ). set l 3 found.1.0) three in
+    let two = c.put-in-Counted.ensures.counts ∙ ap (λ (l : List ℕ). set l 1 c.in-Counted.found.records) one in
+    let three = c.put-in-Counted-2.ensures.counts ∙ ap (λ (l : List ℕ). set l 2 c.in-Counted.found.cuts) two in
+    let four = c.put-in-Counted-3.ensures.counts ∙ ap (λ (l : List ℕ). set l 3 c.in-Counted.stored) three in
     rw c.in-Counted.is (record { number = refl; counts = four })
