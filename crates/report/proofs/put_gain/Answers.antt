@@ -14,4 +14,5 @@ returns c =
     let row = c.put_number-b.ensures in
     let gain = rw c.bits_of.ensures at c.put_hex-c.ensures in
     let tab = c.put_byte-d.ensures in
-    let ends = c.put_ends.ensures in record { written = written_then word (written_field (decimal s.row.0) row.written (written_field (hex_of 16 (to_bits binary64 s.gain)) (written_then gain.written tab) ends.written)); most = omega (arith, word.end_is, row.most, gain.most, tab.end_is, ends.most) }
+    let ends = c.put_ends.ensures in
+    record { written = written_then word (written_field (decimal s.row.0) row.written (written_field (hex_of 16 (to_bits binary64 s.gain)) (written_then gain.written tab) ends.written)); most = omega (arith, word.end_is, row.most, gain.most, tab.end_is, ends.most) }

@@ -13,4 +13,5 @@ returns c =
     let row = c.put_number-split.ensures in
     let low = c.put_number-low.ensures in
     let high = c.put_number-high.ensures in
-    let ends = c.put_ends.ensures in record { written = written_then word (written_field (decimal s.row.0) row.written (written_field (decimal s.a) low.written (written_field (decimal s.b) high.written ends.written))); most = omega (arith, word.end_is, row.most, low.most, high.most, ends.most) }
+    let ends = c.put_ends.ensures in
+    record { written = written_then word (written_field (decimal s.row.0) row.written (written_field (decimal s.a) low.written (written_field (decimal s.b) high.written ends.written))); most = omega (arith, word.end_is, row.most, low.most, high.most, ends.most) }
