@@ -1,0 +1,15 @@
+-- `answer` meets its contract: variant by variant, and what is written is right.
+use native.Mathlib.Omega.{arith}
+use Rattle.why_answers.proofs.Said.{written_said}
+use borrow.Author.Rules.{rules}
+use Rattle.why_answers.proofs.answer.Goals as goal
+
+pub returns-in-Bad : goal.returns-in-Bad
+returns-in-Bad c =
+    let s = c.args in
+    written_said s.row.0 s.read s.cells.now s.forbidden.now s.out.now _ _ (rw c.in-Bad.is c.put_bad.ensures.written) (omega (arith, c.put_bad.ensures.most))
+
+pub returns-in-Deck : goal.returns-in-Deck
+returns-in-Deck c =
+    let s = c.args in
+    written_said s.row.0 s.read s.cells.now s.forbidden.now s.out.now _ _ (rw c.in-Deck.is c.answer_deck.ensures.written) c.answer_deck.ensures.most
