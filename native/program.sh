@@ -1,6 +1,6 @@
 # program.sh: what the commands at the root share, each for the program of its name: it is built where it isn't there, and run. To be
 # sourced with the root in `here` and the program's name in `name`.
-program=$here/target/bin/$name
+program=$here/crates/$name/out/$name
 
 # How many crates the program is made of, itself among them.
 crates() {
@@ -18,45 +18,40 @@ crates() {
         }' "$here/crates.txt"
 }
 
-# Says how far the proving is, from what rt says line by line.
+# Says how far the proving is, from what rt says line by line: a crate's last line is whether it is proved.
 progress() {
     done=0
+    crate=$name
     while IFS= read -r line; do
         case $line in
-        'rt: '*' proved ('*)
-            done=$((done + 1))
-            line=${line#rt: }
-            echo "$name: $done of $1: ${line%% *} proved" >&2
+        'crate '*': modules '*)
+            crate=${line#crate }
+            crate=${crate%%:*}
             ;;
-        *'NOT PROVED'* | 'rt: FAILED'*) echo "$name: ${line#rt: }" >&2 ;;
+        'logic=proved '*)
+            done=$((done + 1))
+            echo "$name: $done of $1: $crate proved" >&2
+            ;;
+        'logic=not-proved'*) echo "$name: $crate is not proved" >&2 ;;
+        'rt: FAILED'*) echo "$name: ${line#rt: }" >&2 ;;
         esac
     done
 }
 
 # Proves and builds the program where it isn't there: a line for each crate on standard error, all that the prover says in
-# target/NAME.log. Ends with 2 where it can't be built.
+# target/NAME.log. Ends with 2 where it can't be built. rt also runs what it has built, here on no input.
 build() {
     [ ! -x "$program" ] || return 0
     of=$(crates)
-    echo "$name: proving and building the program, $of crates, two at a time; target/$name.log has the whole log" >&2
-    # A stamp without its program would keep it from being linked.
-    rm -f "$here/target/stamp/$name"
+    echo "$name: proving and building the program, of $of crates; target/$name.log has the whole log" >&2
     mkdir -p "$here/target"
-    (cd "$here" && rt check "$name") </dev/null 2>&1 | tee "$here/target/$name.log" | progress "$of"
+    { cd "$here/crates/$name" && rt run; } </dev/null 2>&1 >/dev/null | tee "$here/target/$name.log" | progress "$of"
     [ -x "$program" ] || exit 2
 }
 
-# Runs the program with these arguments. It is compiled for x86-64: on another processor it runs under the kit's emulator.
+# Runs the program with these arguments.
 run() {
-    processor=$(uname -m)
-    if [ "$processor" = x86_64 ]; then
-        "$program" "$@"
-    else
-        kit=$(cd "$(dirname "$(rt doc)")/.." && pwd)
-        lib=$kit/toolchain/lib
-        "$kit/on/$processor/toolchain/bin/qemu-x86_64" \
-            "$lib/ld-linux-x86-64.so.2" --library-path "$lib" "$program" "$@"
-    fi
+    "$program" "$@"
 }
 
 # What the program writes with these arguments. It has no status of its own, but always writes something if it could read; ends with 1
