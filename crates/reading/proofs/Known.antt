@@ -1,5 +1,5 @@
 -- The lots of a reader that tells its bytes: each is the next of them, and after the last there are no more. Assumes nothing.
-use Rattle.std.proofs.Common.{◌≡◌, Option, None, Some, IfSome, List, [], ◌++◌, ℕ, ◌+◌, ◌-◌, ◌^◌, ◌≤◌, ◌<◌, Float, length, take, drop, refl, sym, ◌∙◌, ap, subst, inl, inr, arith, length-take-le, take_all, drop_at, le_refl}
+use Rattle.std.proofs.Common.{◌≡◌, Option, None, Some, IfSome, List, ◌++◌, ℕ, ◌+◌, ◌-◌, ◌^◌, ◌≤◌, ◌<◌, Float, length, take, drop, refl, sym, ◌∙◌, ap, subst, length-take-le, take_all, drop_at, le_refl}
 use Rattle.std.proofs.lemmas.Slice.{take-put_mid_below}
 use lib.Seq.{take-add, take-append-le}
 use borrow.Rule.Slice.PartMut.{put_mid, post_of}
@@ -8,11 +8,11 @@ use Rattle.std.proofs.KnownBytes.{Consumes-nil, Consumes-trans, Consumes-whole}
 use Rattle.deck.specs.declared.State.{State}
 use Rattle.deck.specs.declared.Read.{Read}
 use Rattle.deck.specs.Walk.{run}
-use Rattle.deck.specs.Meaning.{Right, after, Said}
-use Rattle.reading.specs.Known.{FedOf, BegunOf, RestOf, RestedOf, TakenOf, ToldOf}
+use Rattle.deck.specs.Meaning.{Right, after}
+use Rattle.reading.specs.Known.{FedOf, BegunOf, RestOf, RestedOf, TakenOf}
 use Rattle.reading.specs.declared.Input.{Input}
 use Rattle.reading.specs.declared.Input.TheVariants as input
-use Rattle.reading.proofs.Lots.{begun_none, begun_more, begun_rest, says, says_longer}
+use Rattle.reading.proofs.Lots.{begun_none, begun_more, begun_rest, says_longer}
 
 -- ---- the buffer
 -- a read puts its bytes behind those that stand there
@@ -23,12 +23,6 @@ behind n k kept part within fits =
     let front : take n new ≡ take n kept = take-put_mid_below _ _ _ _ _ (le_refl _) within in
     let back : take k (drop n new) ≡ take k part = ap (take k) (drop_at (take n kept) (part ++ after) n (length-take-le n kept within)) ∙ take-append-le k part after fits in
     ap (λ (l : List ℕ). l ++ take k part) (sym front) ∙ ap (λ (l : List ℕ). take n new ++ l) (sym back) ∙ sym (take-add n k new)
-
--- where a read delivers none, at the end, there were none
-pub no_more : (a b : Option (List ℕ)) → Consumes a b [] → IsAtEnd b → IsAtEnd a
-no_more None b took end = tt
-no_more (Some xs) None took end = absurd took
-no_more (Some xs) (Some ys) took end = took ∙ end
 
 -- ---- lots, from a state on
 module _ {a : Option (List ℕ)} {s₀ : State} {cells₀ : List Float} {forbidden₀ : List ℕ} where
@@ -48,11 +42,6 @@ module _ {a : Option (List ℕ)} {s₀ : State} {cells₀ : List Float} {forbidd
 -- ---- the whole input: s is the state after the first n bytes that stand in the buffer
 module _ (kept : List ℕ) (cells₀ : List Float) (forbidden₀ : List ℕ) (short : length kept ≤ 65536) (n : ℕ) (few : n ≤ length kept) (s : State) (cells : List Float) (forbidden : List ℕ)
     (is : run s cells forbidden ≡ after (take n kept) cells₀ forbidden₀) where
-  -- the input ended there
-  pub taken_ended : (a b : Option (List ℕ)) (read : Read) → Consumes a b (take n kept) → IsAtEnd b → Right s read → IfSome a (λ xs. TakenOf xs cells₀ forbidden₀ cells forbidden (input.Read read))
-  taken_ended a b read took end right =
-      Consumes-whole a b _ (λ xs. TakenOf xs cells₀ forbidden₀ cells forbidden (input.Read read)) took end (says kept cells₀ forbidden₀ short (take n kept) (rw length-take-le (omega arith)) read is right)
-
   -- it went on
   pub taken_rested : (a b : Option (List ℕ)) → length kept ≤ n → Consumes a b (take n kept) → (cells' : List Float) (forbidden' : List ℕ) (r : Input)
       → IfSome b (λ ys. RestedOf ys s cells forbidden cells' forbidden' r) → IfSome a (λ xs. TakenOf xs cells₀ forbidden₀ cells' forbidden' r)
@@ -62,15 +51,3 @@ module _ (kept : List ℕ) (cells₀ : List Float) (forbidden₀ : List ℕ) (sh
       let e : kept ++ rest.rest.bytes ≡ xs = ap (λ (l : List ℕ). kept ++ l) rest.all ∙ ap (λ (l : List ℕ). l ++ ys) (sym (take_all n kept full)) ∙ sym took in
       subst (λ (l : List ℕ). TakenOf l cells₀ forbidden₀ cells' forbidden' (input.Read read)) e (says_longer kept cells₀ forbidden₀ short n few s cells forbidden is full rest.rest)
   taken_rested (Some xs) (Some ys) full took cells' forbidden' input.Failed rest = tt
-
--- ---- the text
-pub told_none : (P : List ℕ → List ℕ → Type 0) (text : List ℕ) (a : Option (List ℕ)) → length text ≡ 0 → IfSome a (λ xs. ToldOf P xs text)
-told_none P text None none = tt
-told_none P text (Some xs) none = inl none
-
--- a text that is right for the reading answers the bytes
-pub told_bytes : (P : List ℕ → List ℕ → Type 0) (text : List ℕ) (a : Option (List ℕ)) (cells₀ : List Float) (forbidden₀ : List ℕ) (cells : List Float) (forbidden : List ℕ) (read : Read)
-    → 2048 ≤ length cells₀ → 128 ≤ length forbidden₀ → IfSome a (λ xs. TakenOf xs cells₀ forbidden₀ cells forbidden (input.Read read)) → Said P read cells forbidden text
-    → IfSome a (λ xs. ToldOf P xs text)
-told_bytes P text None cells₀ forbidden₀ cells forbidden read room room₂ taken said = tt
-told_bytes P text (Some xs) cells₀ forbidden₀ cells forbidden read room room₂ taken said = inr (said xs cells₀ forbidden₀ room room₂ (taken room room₂))
