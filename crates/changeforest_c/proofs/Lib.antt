@@ -2,4 +2,3 @@
 pub mod Guessed
 pub mod Heard
 pub mod Counted
-pub mod Deals

@@ -1,0 +1,19 @@
+-- `changeforest_open` meets its contract: the enum's case, told as a number and a stored count.
+use mathlib.Core.Path.{sym, ◌∙◌}
+use lib.ListN.{length}
+use Rattle.scope.specs.Feed.{OpenAsked, open_call}
+use Rattle.changeforest_c.proofs.Heard.{fed_given, fed_refused}
+use borrow.Author.Rules.{rules}
+use Rattle.changeforest_c.proofs.feeding.changeforest_open.Goals as goal
+
+pub returns-in-State : goal.returns-in-State
+returns-in-State c =
+    let f = c.«open».ensures in
+    let a = fed_given _ _ (sym c.in-State.is ∙ f.answer) in
+    record { number = rw a; sums = f.sums; count = rw a }
+
+pub returns-in-Refused : goal.returns-in-Refused
+returns-in-Refused c =
+    let f = c.«open».ensures in
+    let a = fed_refused _ _ (sym c.in-Refused.is ∙ f.answer) in
+    record { number = rw a; sums = f.sums; count = rw a }
