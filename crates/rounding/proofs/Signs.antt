@@ -1,9 +1,9 @@
 -- The nearest `f32` of what is not above zero: a NaN, a zero, and what is below zero. Assumes nothing.
-use Rattle.std.proofs.Common.{◌≡◌, ℕ, zero, suc, ◌+◌, ◌*◌, ◌^◌, Bool, true, false, cond, not, ◌&&◌, T, ltb, ℤ, pos, negsuc, sym, refl, ap, subst, true≢false, zero-lt-suc, mul-pos, arith, eqb→eq, pow_pos, ltb-false, ltb-true, lt-ltb}
-use mathlib.Core.Bool.{not-not, false≢true}
+use Rattle.std.proofs.Common.{◌≡◌, zero, suc, ◌*◌, ◌^◌, Bool, true, false, not, ◌&&◌, T, ℤ, pos, negsuc, sym, refl, ap, subst, true≢false, zero-lt-suc, mul-pos, arith, eqb→eq, pow_pos, ltb-false, ltb-true, lt-ltb}
+use mathlib.Core.Bool.{false≢true}
 use native.Mathlib.Nat.{pow-succ'}
-use lib.Ieee.{Float, nan, inf, fin, Format, binary32, prec, emax, low, up, down, odd, units, round, neg, lt, ne, fits, is_nan}
-use lib.Ieee.Fits.{round_is, up_pos}
+use lib.Ieee.{Float, nan, inf, fin, Format, binary32, up, down, round, neg, lt, ne, fits, is_nan}
+use lib.Ieee.Fits.{up_pos}
 use lib.Ieee.Compare.{differs_from_itself}
 use Rattle.scope.specs.Floats.{+0}
 use Rattle.scope.specs.Rounding.{nearest_of, to_f32}

@@ -17,7 +17,7 @@ use Rattle.scope.specs.Refusals.{Test, test, first_of, given, unless, told_unles
 use Rattle.scope.specs.Rounding.{whole_root}
 use Rattle.scope.specs.Sums.{plus, flat_sums, prefix_sums}
 use Rattle.scope.specs.Origin.{direct}
-use Rattle.scope.specs.Grid.{Record, blank, best, trials, search}
+use Rattle.scope.specs.Grid.{Record, blank, best, trials}
 use Rattle.scope.specs.Greatest.{numeric}
 use Rattle.scope.specs.Neighbours.{distances, count_of, predictions}
 use Rattle.scope.specs.Curves.{picked}

@@ -1,12 +1,10 @@
 -- `add_cells` meets its contract: after k cells their sums stand, and the rest is as it was.
 use mathlib.Core.Path.{◌≡◌, refl}
-use Prim.Native.Nat.{◌-◌, ◌≤◌}
 use native.Mathlib.Numerals.{add-one}
 use native.Mathlib.Omega.{arith}
 use lib.Ieee.{of_bits}
 use lib.ListN.{length, length-set}
 use Rattle.scope.specs.Feed.{fed_sums}
-use borrow.Author.Rules.{rules}
 use Rattle.change_in_mean.proofs.add_cells.Goals as goal
 
 pub loop-k-init : goal.loop-k-init

@@ -1,12 +1,8 @@
 -- What the loop of `add_cells` keeps.
-use mathlib.Core.Path.{◌≡◌, refl}
+use mathlib.Core.Path.{◌≡◌}
 use Prim.Native.Nat.{◌-◌, ◌≤◌}
-use native.Mathlib.Numerals.{add-one}
-use native.Mathlib.Omega.{arith}
-use lib.Ieee.{of_bits}
-use lib.ListN.{length, length-set}
+use lib.ListN.{length}
 use Rattle.scope.specs.Feed.{fed_sums}
-use borrow.Author.Rules.{rules}
 use Rattle.change_in_mean.proofs.add_cells.Given as goal
 
 abbrev pub invariant-loop-k : goal.invariant-loop-k

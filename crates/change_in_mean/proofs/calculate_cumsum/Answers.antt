@@ -2,7 +2,6 @@
 use mathlib.Core.Path.{◌∙◌}
 use native.Mathlib.Omega.{arith}
 use Rattle.change_in_mean.proofs.Cumsum.{sums_whole}
-use borrow.Author.Rules.{rules}
 use Rattle.change_in_mean.proofs.calculate_cumsum.Goals as goal
 
 pub returns : goal.returns

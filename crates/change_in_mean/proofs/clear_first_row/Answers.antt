@@ -1,14 +1,11 @@
 -- `clear_first_row` meets its contract: after c turns the first c entries are 0.
 use mathlib.Core.Path.{◌≡◌}
-use mathlib.Core.List.{◌++◌}
-use Prim.Native.Nat.{◌+◌, ◌-◌, ◌≤◌}
 use native.Mathlib.Omega.{arith}
 use lib.Ieee.{of_bits}
-use lib.ListN.{length, drop, replicate, length-set, length-replicate}
+use lib.ListN.{replicate, length-set, length-replicate}
 use Rattle.scope.specs.Floats.{+0}
 use Rattle.scope.proofs.Lists.{store_more}
 use Rattle.change_in_mean.proofs.Cumsum.{replicate_more}
-use borrow.Author.Rules.{rules}
 use Rattle.change_in_mean.proofs.clear_first_row.Goals as goal
 
 pub loop-c-preserved : goal.loop-c-preserved

@@ -1,14 +1,9 @@
 -- What the loop of `clear_first_row` keeps.
 use mathlib.Core.Path.{◌≡◌}
 use mathlib.Core.List.{◌++◌}
-use Prim.Native.Nat.{◌+◌, ◌-◌, ◌≤◌}
-use native.Mathlib.Omega.{arith}
-use lib.Ieee.{of_bits}
-use lib.ListN.{length, drop, replicate, length-set, length-replicate}
+use Prim.Native.Nat.{◌-◌, ◌≤◌}
+use lib.ListN.{length, drop, replicate}
 use Rattle.scope.specs.Floats.{+0}
-use Rattle.scope.proofs.Lists.{store_more}
-use Rattle.change_in_mean.proofs.Cumsum.{replicate_more}
-use borrow.Author.Rules.{rules}
 use Rattle.change_in_mean.proofs.clear_first_row.Given as goal
 
 abbrev pub invariant-loop-c : goal.invariant-loop-c

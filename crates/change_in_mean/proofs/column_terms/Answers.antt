@@ -1,6 +1,5 @@
 -- `column_terms` meets its contract: after c columns the result is their terms' sum.
 use mathlib.Core.Path.{◌≡◌}
-use Prim.Native.Nat.{◌-◌, ◌≤◌}
 use native.Mathlib.Omega.{arith}
 use native.Mathlib.Numerals.{add-one}
 use lib.Ieee.{of_bits}

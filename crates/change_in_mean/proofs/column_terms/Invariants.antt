@@ -1,11 +1,7 @@
 -- What the loop of `column_terms` keeps.
 use mathlib.Core.Path.{◌≡◌}
 use Prim.Native.Nat.{◌-◌, ◌≤◌}
-use native.Mathlib.Omega.{arith}
-use native.Mathlib.Numerals.{add-one}
-use lib.Ieee.{of_bits}
 use Rattle.scope.specs.Gain.{terms}
-use borrow.Author.Rules.{rules}
 use Rattle.change_in_mean.proofs.column_terms.Given as goal
 
 abbrev pub invariant-loop-c : goal.invariant-loop-c

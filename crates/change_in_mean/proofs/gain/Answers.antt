@@ -7,7 +7,6 @@ use lib.Ieee.{of_bits}
 use Rattle.scope.specs.Gain.{inner_gain, gain_of}
 use Rattle.change_in_mean.proofs.Cumsum.{row_in}
 use Rattle.control.proofs.Sizes.{small}
-use borrow.Author.Rules.{rules}
 use Rattle.change_in_mean.proofs.gain.Goals as goal
 use Rattle.change_in_mean.proofs.gain.Lts as lts
 use Rattle.change_in_mean.proofs.gain.Tie as tie

@@ -9,7 +9,6 @@ use Rattle.scope.specs.Refusals.{Test, first_of}
 use Rattle.scope.specs.Calls.{gain_tests, gain_refusal}
 use Rattle.control.proofs.Clean.{answers}
 use Rattle.control.proofs.Sizes.{matrix}
-use borrow.Author.Rules.{rules}
 use Rattle.change_in_mean.proofs.gain_refusal.Goals as goal
 use Rattle.change_in_mean.proofs.gain_refusal.Lts as lts
 use Rattle.change_in_mean.proofs.gain_refusal.Tie as tie

@@ -1,14 +1,10 @@
 -- `all_finite` meets its contract: the values passed are finite, and so it turns on the rest.
-use mathlib.Core.Path.{◌≡◌, sym, ◌∙◌}
-use Prim.Native.Nat.{◌-◌, ◌≤◌}
+use mathlib.Core.Path.{sym, ◌∙◌}
 use native.Mathlib.Omega.{arith}
 use borrow.Author.Tests.{not-true, not-false}
 use lib.Ieee.{nan}
-use lib.ListN.{length, drop}
 use Rattle.scope.specs.Floats.{is_finite}
-use Rattle.scope.specs.Lists.{every}
 use Rattle.control.proofs.Values.{every_next, every_none}
-use borrow.Author.Rules.{rules}
 use Rattle.std.proofs.Common.{ap, not}
 use Rattle.control.proofs.all_finite.Goals as goal
 

@@ -1,15 +1,9 @@
 -- What the loop of `all_finite` keeps.
-use mathlib.Core.Path.{◌≡◌, sym, ◌∙◌}
+use mathlib.Core.Path.{◌≡◌}
 use Prim.Native.Nat.{◌-◌, ◌≤◌}
-use native.Mathlib.Omega.{arith}
-use borrow.Author.Tests.{not-true, not-false}
-use lib.Ieee.{nan}
 use lib.ListN.{length, drop}
 use Rattle.scope.specs.Floats.{is_finite}
 use Rattle.scope.specs.Lists.{every}
-use Rattle.control.proofs.Values.{every_next, every_none}
-use borrow.Author.Rules.{rules}
-use Rattle.std.proofs.Common.{ap, not}
 use Rattle.control.proofs.all_finite.Given as goal
 
 abbrev pub invariant-loop-i : goal.invariant-loop-i

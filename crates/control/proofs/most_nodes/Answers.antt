@@ -6,7 +6,6 @@ use native.Mathlib.Omega.{arith}
 use Rattle.scope.specs.Asked.{end_of}
 use Rattle.scope.proofs.Candidates.{one_at_most}
 use Rattle.control.specs.Settings.{shortest_of}
-use borrow.Author.Rules.{rules}
 use Rattle.control.proofs.most_nodes.Goals as goal
 use Rattle.control.proofs.most_nodes.Goals.{After-shared_rows}
 

@@ -5,7 +5,6 @@ use mathlib.Core.List.{List, [], ◌∷◌}
 use Rattle.scope.specs.Refusals.{Test, no1_rows, no2, no5}
 use Rattle.control.specs.Settings.{shortest_of}
 use Rattle.control.proofs.Clean.{answers}
-use borrow.Author.Rules.{rules}
 use Rattle.control.proofs.rows_refusal.Goals as goal
 use Rattle.control.proofs.rows_refusal.Goals.{Start}
 

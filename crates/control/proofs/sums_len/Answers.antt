@@ -2,7 +2,6 @@
 use Prim.Native.Nat.{◌+◌}
 use native.Mathlib.Omega.{arith}
 use Rattle.control.proofs.Sizes.{product_small}
-use borrow.Author.Rules.{rules}
 use Rattle.control.proofs.sums_len.Goals as goal
 
 pub overflow_mul-result : goal.overflow_mul-result

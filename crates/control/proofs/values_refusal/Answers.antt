@@ -4,7 +4,6 @@ use mathlib.Core.Bool.{true, false, not}
 use mathlib.Core.List.{List, [], ◌∷◌}
 use Rattle.scope.specs.Refusals.{Test, no4, no5}
 use Rattle.control.proofs.Clean.{answers}
-use borrow.Author.Rules.{rules}
 use Rattle.control.proofs.values_refusal.Goals as goal
 use Rattle.control.proofs.values_refusal.Goals.{Start}
 

@@ -1,12 +1,8 @@
 -- `well_paired` meets its contract: the pairs passed are in order, and so it turns on the rest.
-use mathlib.Core.Path.{◌≡◌, sym, ◌∙◌}
-use Prim.Native.Nat.{◌-◌, ◌≤◌}
+use mathlib.Core.Path.{sym, ◌∙◌}
 use native.Mathlib.Omega.{arith}
 use borrow.Author.Tests.{le-leb, lt-leb}
-use lib.ListN.{length, drop}
-use Rattle.scope.specs.Refusals.{well_paired}
 use Rattle.control.proofs.Pairs.{paired_next, paired_end}
-use borrow.Author.Rules.{rules}
 use Rattle.control.proofs.well_paired.Goals as goal
 
 pub returns-then-forbidden-i : goal.returns-then-forbidden-i

@@ -1,12 +1,8 @@
 -- What the loop of `well_paired` keeps.
-use mathlib.Core.Path.{◌≡◌, sym, ◌∙◌}
+use mathlib.Core.Path.{◌≡◌}
 use Prim.Native.Nat.{◌-◌, ◌≤◌}
-use native.Mathlib.Omega.{arith}
-use borrow.Author.Tests.{le-leb, lt-leb}
 use lib.ListN.{length, drop}
 use Rattle.scope.specs.Refusals.{well_paired}
-use Rattle.control.proofs.Pairs.{paired_next, paired_end}
-use borrow.Author.Rules.{rules}
 use Rattle.control.proofs.well_paired.Given as goal
 
 abbrev pub invariant-loop-i : goal.invariant-loop-i

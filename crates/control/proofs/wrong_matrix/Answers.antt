@@ -3,7 +3,6 @@ use mathlib.Core.Path.{sym, ◌∙◌}
 use native.Mathlib.Omega.{arith}
 use Rattle.scope.specs.Refusals.{wrong_matrix}
 use Rattle.control.proofs.Sizes.{product_small, sizes}
-use borrow.Author.Rules.{rules}
 use Rattle.control.proofs.wrong_matrix.Goals as goal
 
 pub returns-then-wrong_sizes : goal.returns-then-wrong_sizes

@@ -1,5 +1,4 @@
 -- `wrong_sizes` meets its contract: the two tests, in order.
-use borrow.Author.Rules.{rules}
 use Rattle.control.proofs.wrong_sizes.Goals as goal
 
 pub returns-then-is_outside : goal.returns-then-is_outside

@@ -7,7 +7,6 @@ use Rattle.scope.specs.Feed.{close_tests}
 use Rattle.control.proofs.Clean.{answers}
 use Rattle.control.proofs.Sizes.{sizes}
 use Rattle.feed.specs.States.{state_of}
-use borrow.Author.Rules.{rules}
 use Rattle.feed.proofs.close_refusal.Goals as goal
 use Rattle.feed.proofs.close_refusal.Lts as lts
 use Rattle.feed.proofs.close_refusal.Tie as tie

@@ -10,7 +10,6 @@ use Rattle.scope.specs.Feed.{feed_tests, feed_refusal}
 use Rattle.control.proofs.Clean.{answers}
 use Rattle.control.proofs.Sizes.{Sizes, sizes}
 use Rattle.feed.specs.States.{state_of}
-use borrow.Author.Rules.{rules}
 use Rattle.feed.proofs.feed_refusal.Goals as goal
 use Rattle.feed.proofs.feed_refusal.Lts as lts
 use Rattle.feed.proofs.feed_refusal.Tie as tie

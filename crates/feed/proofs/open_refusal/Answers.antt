@@ -9,7 +9,6 @@ use Rattle.scope.specs.Refusals.{Test, first_of}
 use Rattle.scope.specs.Feed.{open_tests, open_refusal}
 use Rattle.control.proofs.Clean.{answers}
 use Rattle.control.proofs.Sizes.{sizes}
-use borrow.Author.Rules.{rules}
 use Rattle.feed.proofs.open_refusal.Goals as goal
 use Rattle.feed.proofs.open_refusal.Lts as lts
 use Rattle.feed.proofs.open_refusal.Tie as tie

@@ -1,12 +1,10 @@
 -- `layers_total` meets its contract: after i layers the total is that of the first i.
-use mathlib.Core.Path.{◌≡◌, refl, ◌∙◌, ap}
-use Prim.Native.Nat.{◌+◌, ◌-◌, ◌≤◌}
+use mathlib.Core.Path.{refl, ◌∙◌, ap}
+use Prim.Native.Nat.{◌+◌}
 use native.Mathlib.Omega.{arith}
-use lib.ListN.{length, take}
 use lib.Seq.{take_all}
 use Rattle.scope.specs.Layers.{layers_total}
 use Rattle.layers.proofs.Layered.{right_at, total_next, total_within, total_most}
-use borrow.Author.Rules.{rules}
 use Rattle.layers.proofs.layers_total.Goals as goal
 
 pub loop-i-init : goal.loop-i-init

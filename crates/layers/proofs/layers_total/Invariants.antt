@@ -1,12 +1,8 @@
 -- What the loop of `layers_total` keeps.
-use mathlib.Core.Path.{◌≡◌, refl, ◌∙◌, ap}
-use Prim.Native.Nat.{◌+◌, ◌-◌, ◌≤◌}
-use native.Mathlib.Omega.{arith}
+use mathlib.Core.Path.{◌≡◌}
+use Prim.Native.Nat.{◌-◌, ◌≤◌}
 use lib.ListN.{length, take}
-use lib.Seq.{take_all}
 use Rattle.scope.specs.Layers.{layers_total}
-use Rattle.layers.proofs.Layered.{right_at, total_next, total_within, total_most}
-use borrow.Author.Rules.{rules}
 use Rattle.layers.proofs.layers_total.Given as goal
 
 abbrev pub invariant-loop-i : goal.invariant-loop-i

@@ -1,14 +1,11 @@
 -- `wrong_layers` meets its contract: the values passed are layers', and so it turns on the rest.
-use mathlib.Core.Path.{◌≡◌, ◌∙◌}
-use Prim.Native.Nat.{◌-◌, ◌≤◌}
+use mathlib.Core.Path.{◌∙◌}
 use native.Mathlib.Omega.{arith}
 use borrow.Author.Tests.{lt-ltb, le-ltb, not-true, not-false}
 use lib.Ieee.{nan}
-use lib.ListN.{length, drop}
-use Rattle.scope.specs.Lists.{every}
+use lib.ListN.{length}
 use Rattle.scope.specs.Refusals.{is_layer, wrong_layers}
 use Rattle.control.proofs.Values.{every_next, every_none}
-use borrow.Author.Rules.{rules}
 use Rattle.std.proofs.Common.{ap, not}
 use Rattle.layers.proofs.wrong_layers.Goals as goal
 

@@ -1,7 +1,5 @@
 -- `classifier::order::compare` meets its contract. Assumes nothing.
 use mathlib.Core.Path.{refl, sym, ◌∙◌}
-use borrow.Author.Rules.{rules}
-use native.Mathlib.Omega.{arith}
 use Rattle.order.proofs.compare.Goals as goal
 
 pub is_nearer-requires : goal.is_nearer-requires

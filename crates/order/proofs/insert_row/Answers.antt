@@ -1,13 +1,11 @@
 -- `classifier::order::insert_row` meets its contract. Before the hole stand rows that are nearer; those behind it are as they came. Assumes nothing.
 use mathlib.Core.Path.{◌≡◌, refl, sym, ap, ◌∙◌}
-use mathlib.Core.Logic.{⊎_elim}
 use mathlib.Core.Bool.{true, false}
 use mathlib.Core.List.{List, [], ◌∷◌, ◌++◌, append_assoc}
-use Prim.Native.Nat.{ℕ, suc, ◌+◌, ◌-◌, ◌≤◌, ◌<◌}
+use Prim.Native.Nat.{ℕ, suc, ◌+◌, ◌≤◌, ◌<◌}
 use native.Mathlib.Numerals.{add-one}
 use native.Mathlib.Omega.{arith}
-use borrow.Author.Rules.{rules}
-use borrow.Author.Tests.{not-true, not-false}
+use borrow.Author.Tests.{not-false}
 use lib.Ieee.{Float}
 use lib.ListN.{length, get_or, take, drop, set, length-set, drop_of_length-le}
 use lib.Seq.{drop-cons, set_split, take-suc-set, drop-set-lt}
@@ -70,6 +68,6 @@ pub returns : goal.returns
 returns c =
     let s = c.loop-hole.invariant in
     elim c.loop-hole-test.branch [
-    else-loop-hole-test w ↦ placed-last s w.loop-hole-test.false
-    | then-loop-hole-test+then-not-is_nearer w ↦ placed-before s w.loop-hole-test.true (sym w.is_nearer.ensures ∙ w.if-not-is_nearer.true)
+      | else-loop-hole-test w ↦ placed-last s w.loop-hole-test.false
+      | then-loop-hole-test+then-not-is_nearer w ↦ placed-before s w.loop-hole-test.true (sym w.is_nearer.ensures ∙ w.if-not-is_nearer.true)
     ]

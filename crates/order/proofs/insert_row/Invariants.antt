@@ -1,20 +1,11 @@
 -- What the loop of `insert_row` keeps.
-use mathlib.Core.Path.{◌≡◌, refl, sym, ap, ◌∙◌}
-use mathlib.Core.Logic.{⊎_elim}
-use mathlib.Core.Bool.{true, false}
-use mathlib.Core.List.{List, [], ◌∷◌, ◌++◌, append_assoc}
-use Prim.Native.Nat.{ℕ, suc, ◌+◌, ◌-◌, ◌≤◌, ◌<◌}
-use native.Mathlib.Numerals.{add-one}
-use native.Mathlib.Omega.{arith}
-use borrow.Author.Rules.{rules}
-use borrow.Author.Tests.{not-true, not-false}
+use mathlib.Core.Path.{◌≡◌}
+use mathlib.Core.List.{List, ◌++◌}
+use Prim.Native.Nat.{ℕ, ◌+◌, ◌-◌, ◌<◌}
 use lib.Ieee.{Float}
-use lib.ListN.{length, get_or, take, drop, set, length-set, drop_of_length-le}
-use lib.Seq.{drop-cons, set_split, take-suc-set, drop-set-lt}
-use Rattle.scope.specs.Neighbours.{is_nearer, insert}
+use lib.ListN.{length, take, drop}
+use Rattle.scope.specs.Neighbours.{insert}
 use Rattle.order.specs.Rows.{Below}
-use Rattle.order.proofs.Ordered.{later, here}
-use Rattle.std.proofs.Common.{not}
 use Rattle.order.proofs.insert_row.Given as goal
 
 -- what holds once the hole has come to a place

@@ -1,6 +1,5 @@
 -- `classifier::order::is_nearer` meets its contract. Assumes nothing.
 use lib.Ieee.{nan}
-use borrow.Author.Rules.{rules}
 use Rattle.scope.specs.Floats.{+0}
 use Rattle.order.proofs.Ordered.{default}
 use Rattle.order.proofs.is_nearer.Goals as goal

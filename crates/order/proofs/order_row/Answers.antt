@@ -1,6 +1,5 @@
 -- `classifier::order::order_row` meets its contract. Assumes nothing.
 use mathlib.Core.Path.{◌∙◌, ap}
-use borrow.Author.Rules.{rules}
 use Rattle.scope.specs.Neighbours.{ordered}
 use Rattle.order.proofs.order_row.Goals as goal
 

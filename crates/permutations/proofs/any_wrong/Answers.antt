@@ -1,6 +1,5 @@
 -- `any_wrong` meets its contract: either way there were passes for every value.
 use Rattle.permutations.proofs.Passes.{passed_whole}
-use Rattle.std.proofs.Common.{rules}
 use Rattle.permutations.proofs.any_wrong.Goals as goal
 
 pub returns-then-l-le-FEW : goal.returns-then-l-le-FEW

@@ -1,5 +1,5 @@
 -- `clear` meets its contract: the marks passed are 0.
-use Rattle.std.proofs.Common.{◌≡◌, ℕ, ◌-◌, ◌<◌, ◌≤◌, length, get_or, set, refl, ◌∙◌, ⊎_elim, arith, length-set, get_or-set_other, get_or-set_same, rules, below_none, below_more}
+use Rattle.std.proofs.Common.{◌≡◌, ◌<◌, ◌≤◌, length, set, refl, ◌∙◌, ⊎_elim, arith, length-set, get_or-set_other, get_or-set_same, below_none, below_more}
 use lib.ListN.{get_or-eq_default}
 use Rattle.permutations.proofs.Times.{past}
 use Rattle.permutations.proofs.clear.Goals as goal

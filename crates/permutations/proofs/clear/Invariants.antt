@@ -1,7 +1,5 @@
 -- What the loop of `clear` keeps.
-use Rattle.std.proofs.Common.{◌≡◌, ℕ, ◌-◌, ◌<◌, ◌≤◌, length, get_or, set, refl, ◌∙◌, ⊎_elim, arith, length-set, get_or-set_other, get_or-set_same, rules, below_none, below_more}
-use lib.ListN.{get_or-eq_default}
-use Rattle.permutations.proofs.Times.{past}
+use Rattle.std.proofs.Common.{◌≡◌, ℕ, ◌-◌, ◌<◌, ◌≤◌, length, get_or}
 use Rattle.permutations.proofs.clear.Given as goal
 
 abbrev pub invariant-loop-k : goal.invariant-loop-k

@@ -1,9 +1,9 @@
 -- `holds_wrong` meets its contract: the entries passed are in range and marked.
-use Rattle.std.proofs.Common.{◌≡◌, ◌-◌, ◌<◌, ◌≤◌, true, ltb, length, take, sym, refl, ◌∙◌, arith, rules}
+use Rattle.std.proofs.Common.{◌≡◌, ◌<◌, length, take, sym, refl, ◌∙◌, arith}
 use mathlib.Core.Bool.{false≢true}
 use lib.Seq.{take-length}
 use Rattle.scope.specs.Lists.{every}
-use Rattle.permutations.proofs.Marked.{Marked, marked_none, marked_once, inside_more, marks_more, shown_wrong, wrong_passed}
+use Rattle.permutations.proofs.Marked.{marked_none, marked_once, inside_more, marks_more, shown_wrong, wrong_passed}
 use Rattle.permutations.proofs.holds_wrong.Goals as goal
 
 pub loop-i-init : goal.loop-i-init

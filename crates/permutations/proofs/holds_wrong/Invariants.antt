@@ -1,9 +1,7 @@
 -- What the loop of `holds_wrong` keeps.
-use Rattle.std.proofs.Common.{◌≡◌, ◌-◌, ◌<◌, ◌≤◌, true, ltb, length, take, sym, refl, ◌∙◌, arith, rules}
-use mathlib.Core.Bool.{false≢true}
-use lib.Seq.{take-length}
+use Rattle.std.proofs.Common.{◌≡◌, ◌-◌, ◌≤◌, true, ltb, length, take}
 use Rattle.scope.specs.Lists.{every}
-use Rattle.permutations.proofs.Marked.{Marked, marked_none, marked_once, inside_more, marks_more, shown_wrong, wrong_passed}
+use Rattle.permutations.proofs.Marked.{Marked}
 use Rattle.permutations.proofs.holds_wrong.Given as goal
 
 abbrev pub invariant-loop-i : goal.invariant-loop-i

@@ -1,5 +1,5 @@
 -- `mark` meets its contract: the bit that it sets is a byte's.
-use Rattle.std.proofs.Common.{◌/◌, sym, true≢false, one-mul, arith, shl_exact, rules, eq-eqb, ne_eqb}
+use Rattle.std.proofs.Common.{◌/◌, sym, true≢false, one-mul, arith, shl_exact, eq-eqb, ne_eqb}
 use Rattle.permutations.proofs.mark.Goals as goal
 
 pub returns-then-marks-at-eq1 : goal.returns-then-marks-at-eq1

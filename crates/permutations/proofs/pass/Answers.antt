@@ -1,9 +1,7 @@
 -- `pass` meets its contract: in the permutations passed these values stand apart.
-use Rattle.std.proofs.Common.{◌≡◌, ℕ, ◌+◌, ◌-◌, ◌*◌, ◌<◌, ◌≤◌, length, refl, ◌∙◌, arith, rules, below_none, below_more}
+use Rattle.std.proofs.Common.{◌≡◌, ◌+◌, ◌*◌, ◌≤◌, length, refl, ◌∙◌, arith, below_none, below_more}
 use mathlib.Core.Bool.{false≢true}
 use native.Mathlib.Nat.{add-sub_cancel_left}
-use Rattle.scope.specs.Permutations.{block}
-use Rattle.permutations.specs.Marks.{Apart}
 use Rattle.permutations.proofs.Passes.{block_within, one_refuted, one_wrong}
 use Rattle.permutations.proofs.pass.Goals as goal
 use Rattle.permutations.proofs.pass.Lts as lts

@@ -1,10 +1,7 @@
 -- What the loop of `pass` keeps.
-use Rattle.std.proofs.Common.{◌≡◌, ℕ, ◌+◌, ◌-◌, ◌*◌, ◌<◌, ◌≤◌, length, refl, ◌∙◌, arith, rules, below_none, below_more}
-use mathlib.Core.Bool.{false≢true}
-use native.Mathlib.Nat.{add-sub_cancel_left}
+use Rattle.std.proofs.Common.{◌≡◌, ℕ, ◌-◌, ◌<◌, ◌≤◌, length}
 use Rattle.scope.specs.Permutations.{block}
 use Rattle.permutations.specs.Marks.{Apart}
-use Rattle.permutations.proofs.Passes.{block_within, one_refuted, one_wrong}
 use Rattle.permutations.proofs.pass.Given as goal
 
 abbrev pub invariant-loop-q : goal.invariant-loop-q

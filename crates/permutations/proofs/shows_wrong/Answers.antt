@@ -1,5 +1,5 @@
 -- `shows_wrong` meets its contract: the difference is below the count of values served exactly if v is one of them.
-use Rattle.std.proofs.Common.{◌≡◌, ◌-◌, refl, arith, rules}
+use Rattle.std.proofs.Common.{◌≡◌, ◌-◌, refl, arith}
 use Rattle.permutations.proofs.Marked.{served_is, served_not}
 use Rattle.permutations.proofs.shows_wrong.Goals as goal
 

@@ -1,5 +1,5 @@
 -- `wrong_permutations` meets its contract: refusal 11 by its parts.
-use Rattle.std.proofs.Common.{◌≡◌, ◌*◌, length, ◌∙◌, arith, rules}
+use Rattle.std.proofs.Common.{◌≡◌, ◌*◌, length, ◌∙◌, arith}
 use Rattle.permutations.proofs.Passes.{product, no_product_left, no_product_times, wrong_many, wrong_count, wrong_some, wrong_none}
 use Rattle.permutations.proofs.wrong_permutations.Goals as goal
 use Rattle.permutations.proofs.wrong_permutations.Lts as lts

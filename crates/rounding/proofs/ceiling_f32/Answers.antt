@@ -1,5 +1,4 @@
 -- `rounding::ceiling_f32` meets its contract: the value is the same in the wider format. Assumes nothing.
-use Rattle.std.proofs.Common.{rules}
 use Rattle.rounding.proofs.Whole.{ranged, widens}
 use Rattle.rounding.proofs.ceiling_f32.Goals as goal
 

@@ -1,5 +1,5 @@
 -- `rounding::ceiling_f64` meets its contract, by the law over the format at binary64. Assumes nothing.
-use Rattle.std.proofs.Common.{◌^◌, ◌≤◌, arith, le→leb, rules}
+use Rattle.std.proofs.Common.{◌^◌, ◌≤◌, arith, le→leb}
 use lib.Ieee.{binary64, prec, in_float}
 use Rattle.rounding.proofs.Whole.{ranged, truncated, ceiling_next, ceiling_same}
 use Rattle.rounding.proofs.ceiling_f64.Goals as goal

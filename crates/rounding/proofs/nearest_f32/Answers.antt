@@ -1,5 +1,5 @@
 -- `rounding::nearest_f32` meets its contract. A literal is a pattern, which computes to its value once `of_bits` is unfolded. Assumes nothing.
-use Rattle.std.proofs.Common.{◌≡◌, Bool, T, pos, sym, refl, ap, ◌∙◌, subst, rules}
+use Rattle.std.proofs.Common.{◌≡◌, Bool, T, pos, sym, refl, ap, ◌∙◌, subst}
 use lib.Ieee.{nan, fin, binary32, binary64, div, neg, of_bits}
 use Rattle.rounding.proofs.Signs.{nearest_nan, negative_above, nearest_negative, is_zero, nearest_zero, zero_narrow}
 use Rattle.rounding.proofs.nearest_f32.Goals as goal

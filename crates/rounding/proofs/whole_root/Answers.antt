@@ -1,5 +1,5 @@
 -- `rounding::whole_root` meets its contract: the loop keeps k * k at most l, and what it leaves has the root's bounds. Assumes nothing.
-use Rattle.std.proofs.Common.{◌+◌, ◌-◌, ◌*◌, ◌≤◌, mul-le-mul, arith}
+use Rattle.std.proofs.Common.{◌+◌, ◌≤◌, mul-le-mul, arith}
 use Rattle.rounding.proofs.Root.{square_ge, root_only}
 use Rattle.rounding.proofs.whole_root.Goals as goal
 

@@ -1,6 +1,5 @@
 -- What the loop of `whole_root` keeps.
-use Rattle.std.proofs.Common.{◌+◌, ◌-◌, ◌*◌, ◌≤◌, mul-le-mul, arith}
-use Rattle.rounding.proofs.Root.{square_ge, root_only}
+use Rattle.std.proofs.Common.{◌-◌, ◌*◌, ◌≤◌}
 use Rattle.rounding.proofs.whole_root.Given as goal
 
 abbrev pub invariant-loop-k : goal.invariant-loop-k

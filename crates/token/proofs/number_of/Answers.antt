@@ -1,14 +1,9 @@
 -- `number_of` meets its contract: what the whole field comes to is what the digits so far and the bytes behind them come to.
-use mathlib.Core.Path.{◌≡◌, sym, ◌∙◌, ap}
-use mathlib.Core.List.{foldl}
-use Prim.Native.Nat.{◌-◌, ◌≤◌}
+use mathlib.Core.Path.{sym, ◌∙◌, ap}
 use native.Mathlib.Omega.{arith}
-use lib.ListN.{length, drop}
-use Rattle.scope.specs.Text.{number}
 use Rattle.token.specs.Walk.{digit_more, as_number}
 use Rattle.token.proofs.Numbers.{walked_number}
 use Rattle.token.proofs.Parts.{fold_next, fold_none}
-use borrow.Author.Rules.{rules}
 use Rattle.token.proofs.number_of.Goals as goal
 
 pub loop-i-init : goal.loop-i-init

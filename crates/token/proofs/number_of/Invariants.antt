@@ -1,14 +1,10 @@
 -- What the loop of `number_of` keeps.
-use mathlib.Core.Path.{◌≡◌, sym, ◌∙◌, ap}
+use mathlib.Core.Path.{◌≡◌}
 use mathlib.Core.List.{foldl}
 use Prim.Native.Nat.{◌-◌, ◌≤◌}
-use native.Mathlib.Omega.{arith}
 use lib.ListN.{length, drop}
 use Rattle.scope.specs.Text.{number}
 use Rattle.token.specs.Walk.{digit_more, as_number}
-use Rattle.token.proofs.Numbers.{walked_number}
-use Rattle.token.proofs.Parts.{fold_next, fold_none}
-use borrow.Author.Rules.{rules}
 use Rattle.token.proofs.number_of.Given as goal
 
 abbrev pub invariant-loop-i : goal.invariant-loop-i

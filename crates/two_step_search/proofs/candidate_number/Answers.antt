@@ -1,15 +1,13 @@
 -- `candidate_number` meets its contract: after k rows, as many candidates were seen as were free among them, and no more than i.
 use mathlib.Core.Path.{◌≡◌, sym, ◌∙◌, ap}
-use mathlib.Core.Logic.{⊎_elim}
-use Prim.Native.Nat.{◌+◌, ◌-◌, ◌≤◌}
+use Prim.Native.Nat.{◌+◌}
 use native.Mathlib.Omega.{arith}
-use borrow.Author.Tests.{not-true, not-false}
+use borrow.Author.Tests.{not-true}
 use lib.ListN.{length, get_or}
 use Rattle.scope.specs.Candidates.{range_size, candidates}
 use Rattle.optimizer.proofs.Walk.{walked, walked_all, numbered, count_none, count_barred, count_free}
 use Rattle.scope.proofs.Candidates.{one_at_most}
 use Rattle.control.specs.Settings.{shortest_of}
-use borrow.Author.Rules.{rules}
 use Rattle.std.proofs.Common.{not}
 use Rattle.two_step_search.proofs.candidate_number.Goals as goal
 use Rattle.two_step_search.proofs.candidate_number.Goals.{then-not-is_barred+else-seen-i, else-not-is_barred}
@@ -45,8 +43,8 @@ loop-k-preserved c =
     let b = c.is_barred in
     let first = s.start.0 + s.shortest.m in
     elim c.if-not-is_barred.branch [
-    then-not-is_barred+else-seen-i w ↦ rw w.seen-is (omega arith, omega (arith, w.if-seen-i.false), omega arith, count_free s.forbidden.now first loop.k loop.seen (rw row at (sym b.ensures ∙ w.if-not-is_barred.true)) loop.invariant.3)
-    | else-not-is_barred w ↦ rw w.seen-is (omega arith, omega arith, omega arith, count_barred s.forbidden.now first loop.k loop.seen (rw row at (sym b.ensures ∙ w.if-not-is_barred.false)) loop.invariant.3)
+      | then-not-is_barred+else-seen-i w ↦ rw w.seen-is (omega arith, omega (arith, w.if-seen-i.false), omega arith, count_free s.forbidden.now first loop.k loop.seen (rw row at (sym b.ensures ∙ w.if-not-is_barred.true)) loop.invariant.3)
+      | else-not-is_barred w ↦ rw w.seen-is (omega arith, omega arith, omega arith, count_barred s.forbidden.now first loop.k loop.seen (rw row at (sym b.ensures ∙ w.if-not-is_barred.false)) loop.invariant.3)
     ]
 
 pub returns : goal.returns

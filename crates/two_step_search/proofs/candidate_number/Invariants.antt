@@ -1,16 +1,8 @@
 -- What the loop of `candidate_number` keeps.
-use mathlib.Core.Path.{◌≡◌, sym, ◌∙◌, ap}
-use mathlib.Core.Logic.{⊎_elim}
+use mathlib.Core.Path.{◌≡◌}
 use Prim.Native.Nat.{◌+◌, ◌-◌, ◌≤◌}
-use native.Mathlib.Omega.{arith}
-use borrow.Author.Tests.{not-true, not-false}
-use lib.ListN.{length, get_or}
-use Rattle.scope.specs.Candidates.{range_size, candidates}
-use Rattle.optimizer.proofs.Walk.{walked, walked_all, numbered, count_none, count_barred, count_free}
-use Rattle.scope.proofs.Candidates.{one_at_most}
-use Rattle.control.specs.Settings.{shortest_of}
-use borrow.Author.Rules.{rules}
-use Rattle.std.proofs.Common.{not}
+use lib.ListN.{length}
+use Rattle.optimizer.proofs.Walk.{walked}
 use Rattle.two_step_search.proofs.candidate_number.Given as goal
 
 abbrev pub invariant-loop-k : goal.invariant-loop-k

@@ -1,15 +1,11 @@
 -- `count_candidates` meets its contract: after k rows, as many as were free among them.
 use mathlib.Core.Path.{◌≡◌, sym, ◌∙◌}
-use mathlib.Core.Logic.{⊎_elim}
-use Prim.Native.Nat.{◌+◌, ◌-◌, ◌≤◌}
+use Prim.Native.Nat.{◌+◌}
 use native.Mathlib.Omega.{arith}
-use borrow.Author.Tests.{not-true, not-false}
-use lib.ListN.{length}
 use Rattle.scope.specs.Candidates.{range_size}
-use Rattle.optimizer.proofs.Walk.{walked, walked_all, count_none, count_barred, count_free}
+use Rattle.optimizer.proofs.Walk.{walked_all, count_none, count_barred, count_free}
 use Rattle.scope.proofs.Candidates.{one_at_most}
 use Rattle.control.specs.Settings.{shortest_of}
-use borrow.Author.Rules.{rules}
 use Rattle.two_step_search.proofs.count_candidates.Goals as goal
 use Rattle.two_step_search.proofs.count_candidates.Goals.{then-not-is_barred, else-not-is_barred}
 
@@ -32,8 +28,8 @@ loop-k-preserved c =
     let b = c.is_barred in
     let first = s.start.0 + s.shortest.m in
     elim c.if-not-is_barred.branch [
-    then-not-is_barred w ↦ rw w.count-is (omega arith, omega arith, count_free s.forbidden.now first loop.k loop.count (rw row at (sym b.ensures ∙ w.if-not-is_barred.true)) loop.invariant.2)
-    | else-not-is_barred w ↦ rw w.count-is (omega arith, omega arith, count_barred s.forbidden.now first loop.k loop.count (rw row at (sym b.ensures ∙ w.if-not-is_barred.false)) loop.invariant.2)
+      | then-not-is_barred w ↦ rw w.count-is (omega arith, omega arith, count_free s.forbidden.now first loop.k loop.count (rw row at (sym b.ensures ∙ w.if-not-is_barred.true)) loop.invariant.2)
+      | else-not-is_barred w ↦ rw w.count-is (omega arith, omega arith, count_barred s.forbidden.now first loop.k loop.count (rw row at (sym b.ensures ∙ w.if-not-is_barred.false)) loop.invariant.2)
     ]
 
 pub returns : goal.returns

@@ -9,7 +9,6 @@ use Rattle.scope.specs.Curves.{is_member, guesses}
 use mathlib.Core.Option.{none}
 use Rattle.two_step_search.proofs.Guessing.{quarters_past, three_kept, filled_is}
 use Rattle.control.specs.Settings.{shortest_of}
-use borrow.Author.Rules.{rules}
 use Rattle.two_step_search.proofs.guesses_between.Goals as goal
 use Rattle.two_step_search.proofs.guesses_between.Lts as lts
 use Rattle.two_step_search.proofs.guesses_between.Tie as tie

@@ -8,7 +8,6 @@ use Rattle.two_step_search.proofs.Guessing.{filled_is}
 use Rattle.scope.proofs.Candidates.{one_at_most}
 use Rattle.optimizer.proofs.Walk.{candidates_few}
 use Rattle.control.specs.Settings.{shortest_of}
-use borrow.Author.Rules.{rules}
 use Rattle.two_step_search.proofs.guesses_listed.Goals as goal
 
 pub candidate_number-first-requires : goal.candidate_number-first-requires

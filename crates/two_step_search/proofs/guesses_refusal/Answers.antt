@@ -8,7 +8,6 @@ use Rattle.scope.specs.Calls.{GuessesAsked, guesses_tests}
 use Rattle.control.specs.Settings.{shortest_of}
 use Rattle.control.proofs.Clean.{passed, stops, passes}
 use Rattle.scope.proofs.Candidates.{not_outside}
-use borrow.Author.Rules.{rules}
 use Rattle.two_step_search.proofs.guesses_refusal.Goals as goal
 use Rattle.two_step_search.proofs.guesses_refusal.Lts as lts
 use Rattle.two_step_search.proofs.guesses_refusal.Tie as tie

@@ -2,7 +2,6 @@
 use native.Mathlib.Omega.{arith}
 use Rattle.two_step_search.proofs.Guessing.{member_outside, member_inside}
 use Rattle.control.specs.Settings.{shortest_of}
-use borrow.Author.Rules.{rules}
 use Rattle.two_step_search.proofs.is_candidate.Goals as goal
 
 pub returns-then-row-first : goal.returns-then-row-first

@@ -3,7 +3,6 @@ use mathlib.Core.Path.{sym}
 use mathlib.Core.List.{append-nil}
 use native.Mathlib.Omega.{arith}
 use Rattle.two_step_search.specs.Guessed.{rows_of}
-use borrow.Author.Rules.{rules}
 use Rattle.two_step_search.proofs.kept.Goals as goal
 
 pub returns-then-keeps : goal.returns-then-keeps

@@ -13,7 +13,6 @@ use Rattle.control.specs.Settings.{shortest_of}
 use Rattle.control.proofs.Clean.{passed, answers, stops, passes}
 use Rattle.scope.proofs.Candidates.{not_outside}
 use Rattle.control.proofs.Sizes.{segment}
-use borrow.Author.Rules.{rules}
 use Rattle.two_step_search.proofs.pick_refusal.Goals as goal
 use Rattle.two_step_search.proofs.pick_refusal.Lts as lts
 use Rattle.two_step_search.proofs.pick_refusal.Tie as tie

@@ -1,11 +1,7 @@
 -- `single_find_best_split` meets its contract: after k rows the record is the best of the candidates among them, from the guess on.
 use mathlib.Core.Path.{◌≡◌, refl, sym, ◌∙◌, ap}
-use mathlib.Core.Logic.{⊎_elim}
-use mathlib.Core.List.{List}
-use Prim.Native.Nat.{ℕ, ◌+◌, ◌-◌, ◌≤◌}
+use Prim.Native.Nat.{ℕ, ◌+◌}
 use native.Mathlib.Omega.{arith}
-use borrow.Author.Tests.{not-true, not-false}
-use lib.Ieee.{Float}
 use Rattle.scope.specs.Lists.{at}
 use Rattle.scope.specs.Candidates.{range_size}
 use Rattle.scope.specs.Grid.{Record}
@@ -14,7 +10,6 @@ use Rattle.optimizer.specs.Records.{to_record, guessed}
 use Rattle.optimizer.proofs.Walk.{best_walked, best_none, best_barred, best_tried, best_all}
 use Rattle.scope.proofs.Candidates.{one_at_most}
 use Rattle.control.specs.Settings.{shortest_of}
-use borrow.Author.Rules.{rules}
 use Rattle.two_step_search.proofs.single_find_best_split.Goals as goal
 use Rattle.two_step_search.proofs.single_find_best_split.Goals.{then-not-is_barred, else-not-is_barred}
 use Rattle.two_step_search.proofs.single_find_best_split.Invariants.{along}
@@ -41,11 +36,11 @@ loop-k-preserved c =
     let starts : g.start ≡ s.start.0 = ap (λ (z : Record). z.start) c.guessed-record.ensures in (
       omega arith,
       elim c.if-not-is_barred.branch [
-      then-not-is_barred w ↦ ap to_record w.record-is
-          ∙ w.better-record.ensures
-          ∙ rw row (best_tried (along s.curve.now) s.forbidden.now s.start.0 g.stop g starts refl first loop.k _ _
-          (rw row at (sym b.ensures ∙ w.if-not-is_barred.true)) loop.invariant.1 (rw row at (w.value_at.ensures ∙ ap (at s.curve.now) w.offset_in.ensures)))
-      | else-not-is_barred w ↦ ap to_record w.record-is ∙ loop.invariant.1 ∙ best_barred (along s.curve.now) s.forbidden.now s.start.0 g.stop g first loop.k (rw row at (sym b.ensures ∙ w.if-not-is_barred.false))
+        | then-not-is_barred w ↦ ap to_record w.record-is
+            ∙ w.better-record.ensures
+            ∙ rw row (best_tried (along s.curve.now) s.forbidden.now s.start.0 g.stop g starts refl first loop.k _ _
+            (rw row at (sym b.ensures ∙ w.if-not-is_barred.true)) loop.invariant.1 (rw row at (w.value_at.ensures ∙ ap (at s.curve.now) w.offset_in.ensures)))
+        | else-not-is_barred w ↦ ap to_record w.record-is ∙ loop.invariant.1 ∙ best_barred (along s.curve.now) s.forbidden.now s.start.0 g.stop g first loop.k (rw row at (sym b.ensures ∙ w.if-not-is_barred.false))
       ],
     )
 

@@ -1,20 +1,11 @@
 -- What the loop of `single_find_best_split` keeps.
-use mathlib.Core.Path.{◌≡◌, refl, sym, ◌∙◌, ap}
-use mathlib.Core.Logic.{⊎_elim}
+use mathlib.Core.Path.{◌≡◌}
 use mathlib.Core.List.{List}
 use Prim.Native.Nat.{ℕ, ◌+◌, ◌-◌, ◌≤◌}
-use native.Mathlib.Omega.{arith}
-use borrow.Author.Tests.{not-true, not-false}
 use lib.Ieee.{Float}
 use Rattle.scope.specs.Lists.{at}
-use Rattle.scope.specs.Candidates.{range_size}
-use Rattle.scope.specs.Grid.{Record}
-use Rattle.scope.specs.Curves.{picked}
-use Rattle.optimizer.specs.Records.{to_record, guessed}
-use Rattle.optimizer.proofs.Walk.{best_walked, best_none, best_barred, best_tried, best_all}
-use Rattle.scope.proofs.Candidates.{one_at_most}
-use Rattle.control.specs.Settings.{shortest_of}
-use borrow.Author.Rules.{rules}
+use Rattle.optimizer.specs.Records.{to_record}
+use Rattle.optimizer.proofs.Walk.{best_walked}
 use Rattle.two_step_search.proofs.single_find_best_split.Given as goal
 
 -- the curve as a gain

@@ -6,7 +6,6 @@ use Rattle.scope.specs.Refusals.{Test}
 use Rattle.scope.specs.Feed.{no13, no14}
 use Rattle.control.proofs.Clean.{answers}
 use Rattle.feed.specs.States.{state_of}
-use borrow.Author.Rules.{rules}
 use Rattle.feed.proofs.State.count_refusal.Goals as goal
 use Rattle.feed.proofs.State.count_refusal.Lts as lts
 use Rattle.feed.proofs.State.count_refusal.Tie as tie

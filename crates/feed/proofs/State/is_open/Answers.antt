@@ -1,7 +1,6 @@
 -- `is_open` meets its contract: the product is small.
 use native.Mathlib.Omega.{arith}
 use Rattle.control.proofs.Sizes.{product_small}
-use borrow.Author.Rules.{rules}
 use Rattle.feed.proofs.State.is_open.Goals as goal
 
 pub overflow_mul-result : goal.overflow_mul-result

@@ -6,7 +6,6 @@ use Rattle.scope.specs.Floats.{◌⊖◌, ◌⊗◌, ◌⊘◌, whole}
 use Rattle.scope.specs.Layers.{layer_length, layer_step}
 use Rattle.rounding.proofs.Layers.{layer_count_bounds, layer_length_range}
 use Rattle.layers.proofs.Layered.{held}
-use borrow.Author.Rules.{rules}
 use Rattle.layers.proofs.Layer.new.Goals as goal
 
 pub int_to_float-len : goal.int_to_float-len

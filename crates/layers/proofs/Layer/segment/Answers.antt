@@ -4,7 +4,6 @@ use Prim.Native.Nat.{◌<◌}
 use native.Mathlib.Omega.{arith}
 use Rattle.scope.specs.Layers.{layer_count, layer_stop}
 use Rattle.rounding.proofs.Layers.{layer_start_most, layer_inside}
-use borrow.Author.Rules.{rules}
 use Rattle.layers.proofs.Layer.segment.Goals as goal
 
 pub stop-stop-requires : goal.stop-stop-requires

@@ -1,7 +1,6 @@
 -- `Layer::stop` meets its contract: the lesser of the two.
 use native.Mathlib.Omega.{arith}
 use Rattle.rounding.proofs.Layers.{layer_length_ceiling}
-use borrow.Author.Rules.{rules}
 use Rattle.layers.proofs.Layer.stop.Goals as goal
 
 pub position_from-stop-requires : goal.position_from-stop-requires

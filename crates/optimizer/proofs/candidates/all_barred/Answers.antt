@@ -1,15 +1,11 @@
 -- `all_barred` meets its contract: no row passed is free.
 use mathlib.Core.Path.{◌≡◌, sym, ◌∙◌}
-use mathlib.Core.Bool.{true}
-use Prim.Native.Nat.{◌+◌, ◌-◌, ◌≤◌}
 use native.Mathlib.Omega.{arith}
 use borrow.Author.Tests.{not-true, not-false}
-use Rattle.scope.specs.Lists.{is_empty}
 use Rattle.scope.specs.Candidates.{range_size}
 use Rattle.scope.proofs.Candidates.{one_at_most}
-use Rattle.optimizer.proofs.Walk.{walked, none_yet, none_walked, barred_some, barred_all}
+use Rattle.optimizer.proofs.Walk.{none_yet, none_walked, barred_some, barred_all}
 use Rattle.control.specs.Settings.{shortest_of}
-use borrow.Author.Rules.{rules}
 use Rattle.std.proofs.Common.{ap, not}
 use Rattle.optimizer.proofs.candidates.all_barred.Goals as goal
 

@@ -12,7 +12,6 @@ use Rattle.scope.specs.Calls.{CandidatesAsked, candidates_tests, candidates_refu
 use Rattle.control.specs.Settings.{shortest_of}
 use Rattle.control.proofs.Clean.{passed, answers, stops, passes}
 use Rattle.scope.proofs.Candidates.{not_outside}
-use borrow.Author.Rules.{rules}
 use Rattle.optimizer.proofs.candidates.candidates_refusal.Goals as goal
 use Rattle.optimizer.proofs.candidates.candidates_refusal.Lts as lts
 use Rattle.optimizer.proofs.candidates.candidates_refusal.Tie as tie

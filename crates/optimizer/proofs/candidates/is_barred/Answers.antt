@@ -1,12 +1,7 @@
 -- `is_barred` meets its contract: no pair passed bars the row, and so it turns on the rest.
-use mathlib.Core.Path.{◌≡◌, sym, ◌∙◌}
-use mathlib.Core.Logic.{⊎_elim}
-use Prim.Native.Nat.{◌-◌, ◌≤◌}
+use mathlib.Core.Path.{sym, ◌∙◌}
 use native.Mathlib.Omega.{arith}
-use lib.ListN.{length, drop}
-use Rattle.scope.specs.Candidates.{is_barred}
 use Rattle.optimizer.proofs.Barred.{barred_hit, barred_above, barred_below, barred_none}
-use borrow.Author.Rules.{rules}
 use borrow.Author.Tests.{le-leb, lt-leb}
 use Rattle.optimizer.proofs.candidates.is_barred.Goals as goal
 use Rattle.optimizer.proofs.candidates.is_barred.Goals.{else-forbidden-i-via-then-forbidden-i+else-x-forbidden, else-forbidden-i-via-else-forbidden-i}
@@ -24,8 +19,8 @@ loop-i-preserved c =
       omega arith,
       at-loop.invariant.1
           ∙ elim c.else-forbidden-i.branch [
-          else-forbidden-i-via-then-forbidden-i+else-x-forbidden w ↦ barred_above s.forbidden.now s.row.0 at-loop.i (omega arith) w.if-forbidden-i.true (lt-leb _ _ w.if-x-forbidden.false)
-          | else-forbidden-i-via-else-forbidden-i w ↦ barred_below s.forbidden.now s.row.0 at-loop.i (omega arith) w.if-forbidden-i.false
+            | else-forbidden-i-via-then-forbidden-i+else-x-forbidden w ↦ barred_above s.forbidden.now s.row.0 at-loop.i (omega arith) w.if-forbidden-i.true (lt-leb _ _ w.if-x-forbidden.false)
+            | else-forbidden-i-via-else-forbidden-i w ↦ barred_below s.forbidden.now s.row.0 at-loop.i (omega arith) w.if-forbidden-i.false
           ],
     )
 

@@ -1,13 +1,8 @@
 -- What the loop of `is_barred` keeps.
-use mathlib.Core.Path.{◌≡◌, sym, ◌∙◌}
-use mathlib.Core.Logic.{⊎_elim}
+use mathlib.Core.Path.{◌≡◌}
 use Prim.Native.Nat.{◌-◌, ◌≤◌}
-use native.Mathlib.Omega.{arith}
 use lib.ListN.{length, drop}
 use Rattle.scope.specs.Candidates.{is_barred}
-use Rattle.optimizer.proofs.Barred.{barred_hit, barred_above, barred_below, barred_none}
-use borrow.Author.Rules.{rules}
-use Rattle.std.proofs.Common.{ap, not}
 use Rattle.optimizer.proofs.candidates.is_barred.Given as goal
 
 abbrev pub invariant-loop-i : goal.invariant-loop-i

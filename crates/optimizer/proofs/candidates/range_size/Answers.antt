@@ -7,7 +7,6 @@ use Rattle.scope.specs.Asked.{end_of}
 use Rattle.scope.specs.Candidates.{range_size}
 use Rattle.scope.proofs.Candidates.{one_at_most}
 use Rattle.control.specs.Settings.{shortest_of}
-use borrow.Author.Rules.{rules}
 use Rattle.optimizer.proofs.candidates.range_size.Goals as goal
 use Rattle.optimizer.proofs.candidates.range_size.Lts as lts
 use Rattle.optimizer.proofs.candidates.range_size.Tie as tie

@@ -12,7 +12,6 @@ use Rattle.scope.proofs.Candidates.{nine_from}
 use Rattle.control.specs.Settings.{shortest_of}
 use Rattle.control.proofs.Clean.{answers}
 use Rattle.control.proofs.Sizes.{segment}
-use borrow.Author.Rules.{rules}
 use Rattle.optimizer.proofs.candidates.segment_refusal.Goals as goal
 use Rattle.optimizer.proofs.candidates.segment_refusal.Lts as lts
 use Rattle.optimizer.proofs.candidates.segment_refusal.Tie as tie

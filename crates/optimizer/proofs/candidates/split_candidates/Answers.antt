@@ -1,14 +1,11 @@
 -- `split_candidates` meets its contract: after k rows the candidates among them stand at the front.
 use mathlib.Core.Path.{◌≡◌, sym, ◌∙◌}
-use mathlib.Core.Logic.{⊎_elim}
-use Prim.Native.Nat.{◌+◌, ◌-◌}
+use Prim.Native.Nat.{◌+◌}
 use native.Mathlib.Omega.{arith}
-use borrow.Author.Tests.{not-true, not-false}
 use Rattle.scope.specs.Candidates.{range_size}
 use Rattle.scope.proofs.Candidates.{one_at_most}
-use Rattle.optimizer.proofs.Walk.{State, begins, passed, stored, walked_all}
+use Rattle.optimizer.proofs.Walk.{begins, passed, stored, walked_all}
 use Rattle.control.specs.Settings.{shortest_of}
-use borrow.Author.Rules.{rules}
 use Rattle.optimizer.proofs.candidates.split_candidates.Goals as goal
 use Rattle.optimizer.proofs.candidates.split_candidates.Goals.{then-not-is_barred, else-not-is_barred}
 
@@ -26,8 +23,8 @@ loop-k-preserved c =
     let b = c.is_barred in
     let row = c.range_row-row.ensures in
     elim c.if-not-is_barred.branch [
-    then-not-is_barred w ↦ rw (w.rows-is, w.count-is, row) (stored s.forbidden.now (s.start.0 + s.shortest.m) c.range_size-size.result s.rows.now at.rows at.count at.k (omega arith) at.invariant (omega arith) (rw row at (sym b.ensures ∙ w.if-not-is_barred.true)))
-    | else-not-is_barred w ↦ rw (w.rows-is, w.count-is) (passed s.forbidden.now (s.start.0 + s.shortest.m) c.range_size-size.result s.rows.now at.rows at.count at.k (omega arith) at.invariant (rw row at (sym b.ensures ∙ w.if-not-is_barred.false)))
+      | then-not-is_barred w ↦ rw (w.rows-is, w.count-is, row) (stored s.forbidden.now (s.start.0 + s.shortest.m) c.range_size-size.result s.rows.now at.rows at.count at.k (omega arith) at.invariant (omega arith) (rw row at (sym b.ensures ∙ w.if-not-is_barred.true)))
+      | else-not-is_barred w ↦ rw (w.rows-is, w.count-is) (passed s.forbidden.now (s.start.0 + s.shortest.m) c.range_size-size.result s.rows.now at.rows at.count at.k (omega arith) at.invariant (rw row at (sym b.ensures ∙ w.if-not-is_barred.false)))
     ]
 
 pub returns : goal.returns

@@ -1,14 +1,6 @@
 -- What the loop of `split_candidates` keeps.
-use mathlib.Core.Path.{◌≡◌, sym, ◌∙◌}
-use mathlib.Core.Logic.{⊎_elim}
 use Prim.Native.Nat.{◌+◌, ◌-◌}
-use native.Mathlib.Omega.{arith}
-use borrow.Author.Tests.{not-true, not-false}
-use Rattle.scope.specs.Candidates.{range_size}
-use Rattle.scope.proofs.Candidates.{one_at_most}
-use Rattle.optimizer.proofs.Walk.{State, begins, passed, stored, walked_all}
-use Rattle.control.specs.Settings.{shortest_of}
-use borrow.Author.Rules.{rules}
+use Rattle.optimizer.proofs.Walk.{State}
 use Rattle.optimizer.proofs.candidates.split_candidates.Given as goal
 
 abbrev pub invariant-loop-k : goal.invariant-loop-k

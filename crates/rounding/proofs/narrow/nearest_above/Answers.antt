@@ -1,5 +1,5 @@
 -- `rounding::narrow::nearest_above` meets its contract: each answer is one of the laws of `Nearest.antt`. Assumes nothing.
-use Rattle.std.proofs.Common.{◌≡◌, ℕ, ◌+◌, ◌-◌, ◌*◌, ◌/◌, ◌%◌, ◌^◌, ◌<◌, ◌≤◌, false, T, sym, refl, ap, ◌∙◌, subst, le_trans, le_of_lt, mod-lt, mul-pos, div-le_self, arith, lit<, pow_pos, shl_exact, rules}
+use Rattle.std.proofs.Common.{◌≡◌, ℕ, ◌+◌, ◌-◌, ◌*◌, ◌/◌, ◌%◌, ◌^◌, ◌<◌, ◌≤◌, false, T, sym, refl, ap, ◌∙◌, subst, le_trans, le_of_lt, mod-lt, mul-pos, div-le_self, arith, lit<, pow_pos, shl_exact}
 use Prim.Native.Nat.{compare}
 use native.Mathlib.Nat.{mod-le}
 use lib.Arith.{le→nltb}

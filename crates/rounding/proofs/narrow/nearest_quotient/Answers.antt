@@ -1,5 +1,5 @@
 -- `rounding::narrow::nearest_quotient` meets its contract: each arm is one answer of the comparison. Assumes nothing.
-use Rattle.std.proofs.Common.{sym, ◌∙◌, le_of_lt, mod-lt, add-one, arith, rules}
+use Rattle.std.proofs.Common.{sym, ◌∙◌, le_of_lt, mod-lt, add-one, arith}
 use Rattle.rounding.proofs.Quotient.{closest_down, closest_tie, closest_up, quotient_below}
 use Rattle.rounding.proofs.narrow.nearest_quotient.Goals as goal
 

@@ -1,11 +1,9 @@
 -- `choose` meets its contract: the choice so far and the records that are left give the choice among all.
 use mathlib.Core.Path.{refl, sym, ◌∙◌, ap, subst}
-use mathlib.Core.Logic.{⊎_elim}
-use Prim.Native.Nat.{◌+◌, ◌-◌, ◌≤◌}
+use Prim.Native.Nat.{◌+◌}
 use native.Mathlib.Omega.{arith}
 use Rattle.optimizer.specs.Records.{to_record}
 use Rattle.stored.proofs.Chosen.{SoFar, begins, compared, passed, ended}
-use borrow.Author.Rules.{rules}
 use Rattle.stored.proofs.choice.choose.Goals as goal
 use Rattle.stored.proofs.choice.choose.Goals.{then-lies_inside, else-lies_inside}
 
@@ -20,8 +18,8 @@ loop-k-preserved c =
     let more = SoFar s.rows.now s.gains.now s.count s.direct.start.0 s.direct.stop.0 (to_record s.direct) (at.k + 1) in (
       omega arith,
       elim c.if-lies_inside.branch [
-      then-lies_inside w ↦ subst more (sym (ap to_record w.choice-is ∙ w.stronger-choice.ensures)) (compared (omega arith) refl at.invariant.1 (sym b.ensures ∙ w.if-lies_inside.true))
-      | else-lies_inside w ↦ subst more (sym (ap to_record w.choice-is)) (passed (omega arith) refl at.invariant.1 (sym b.ensures ∙ w.if-lies_inside.false))
+        | then-lies_inside w ↦ subst more (sym (ap to_record w.choice-is ∙ w.stronger-choice.ensures)) (compared (omega arith) refl at.invariant.1 (sym b.ensures ∙ w.if-lies_inside.true))
+        | else-lies_inside w ↦ subst more (sym (ap to_record w.choice-is)) (passed (omega arith) refl at.invariant.1 (sym b.ensures ∙ w.if-lies_inside.false))
       ],
     )
 

@@ -1,11 +1,7 @@
 -- What the loop of `choose` keeps.
-use mathlib.Core.Path.{refl, sym, ◌∙◌, ap, subst}
-use mathlib.Core.Logic.{⊎_elim}
-use Prim.Native.Nat.{◌+◌, ◌-◌, ◌≤◌}
-use native.Mathlib.Omega.{arith}
+use Prim.Native.Nat.{◌-◌, ◌≤◌}
 use Rattle.optimizer.specs.Records.{to_record}
-use Rattle.stored.proofs.Chosen.{SoFar, begins, compared, passed, ended}
-use borrow.Author.Rules.{rules}
+use Rattle.stored.proofs.Chosen.{SoFar}
 use Rattle.stored.proofs.choice.choose.Given as goal
 
 abbrev pub invariant-loop-k : goal.invariant-loop-k

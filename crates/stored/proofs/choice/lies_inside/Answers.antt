@@ -1,5 +1,4 @@
 -- `lies_inside` meets its contract: the two tests, one after the other.
-use borrow.Author.Rules.{rules}
 use borrow.Author.Tests.{le-leb, lt-leb}
 use Rattle.stored.proofs.choice.lies_inside.Goals as goal
 

@@ -1,5 +1,4 @@
 -- `stronger` meets its contract: the test picks the record.
-use borrow.Author.Rules.{rules}
 use Rattle.scope.specs.Grid.{better}
 use Rattle.stored.proofs.choice.stronger.Goals as goal
 

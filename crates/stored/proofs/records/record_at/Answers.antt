@@ -1,5 +1,4 @@
 -- `record_at` meets its contract: the two numbers say which origin.
-use borrow.Author.Rules.{rules}
 use Rattle.stored.proofs.records.record_at.Goals as goal
 
 pub returns : goal.returns

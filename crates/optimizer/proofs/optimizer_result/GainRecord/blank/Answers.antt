@@ -1,5 +1,4 @@
 -- `GainRecord::blank` meets its contract.
-use borrow.Author.Rules.{rules}
 use Rattle.optimizer.proofs.optimizer_result.GainRecord.blank.Goals as goal
 
 pub returns : goal.returns

@@ -1,5 +1,4 @@
 -- `GainRecord::guessed` meets its contract.
-use borrow.Author.Rules.{rules}
 use Rattle.optimizer.proofs.optimizer_result.GainRecord.guessed.Goals as goal
 
 pub returns : goal.returns
