@@ -58,7 +58,10 @@ unfolding guesses_answer
 returns-then-no-ne0 c = rw (← number c.before.before) record { answer = sym (ap guessed_of (unless_refused c.guesses_refusal-no.result _ c.if-no-ne0.true)) }
 
 pub guesses_listed-requires : goal.guesses_listed-requires
-guesses_listed-requires c = let w = clean c.before.before in record { start_le_stop = (w.ordered, w.within, w.length_fits); nonzero = rw c.if-given.true at w.some_row }
+guesses_listed-requires c =
+    let w = clean c.before.before in
+    let given : c.args.given ≡ true = c.if-given.true in
+    record { start_le_stop = (w.ordered, w.within, w.length_fits); nonzero = rw given at w.some_row }
 
 pub returns-then-given : goal.returns-then-given
 unfolding guesses_answer
