@@ -85,11 +85,11 @@ fn run<R: io::Read>(argument: &[u8], input: &mut R, kept: &mut [u8], out: &mut [
 }
 
 // The one argument behind the program's name, and how many bytes it has: none where there is not one, or where it is longer than a number.
-fn one_argument(env: &impl Env, argument: &mut [u8; MOST_DIGITS]) -> usize
+fn one_argument(rt: &HostRuntime, argument: &mut [u8; MOST_DIGITS]) -> usize
     ensures { result ≤ length argument.new }
 {
-    match env.arg(2, &mut [0u8; 1]) {
-        Err(FillError::NotPresent) => env.arg(1, argument).unwrap_or(0),
+    match rt.arg(2, &mut [0u8; 1]) {
+        Err(FillError::NotPresent) => rt.arg(1, argument).unwrap_or(0),
         _ => 0,
     }
 }
