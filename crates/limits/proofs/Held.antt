@@ -57,7 +57,7 @@ module _ (cells₀ : List Float) (forbidden₀ : List ℕ) (room : 128 ≤ lengt
     cells_same : (matrix_held g cells).cells ≡ map (of_int binary64) deck.cells
     cells_same =
         let size : g.n * g.d ≡ deck.n * deck.d = ap₂ ◌*◌ told.n_is told.d_is in
-        held_cells deck.cells cells₀ cells (g.n * g.d) told.kept.cells_held_lem (omega (arith, clean.sizes.filled)) (omega (arith, clean.sizes.size))
+        held_cells deck.cells cells₀ cells (g.n * g.d) told.kept.cells_held (omega (arith, clean.sizes.filled)) (omega (arith, clean.sizes.size))
 
     pairs_same : (settings_held g forbidden).forbidden ≡ deck.forbidden
     pairs_same = held cells₀ forbidden₀ g cells forbidden r room told (omega (arith, told.kept.flat, clean.few))

@@ -51,7 +51,7 @@ module _ (cells₀ : List Float) (forbidden₀ : List ℕ) where
 
   pub kept_start : K nothing cells₀ forbidden₀ [] []
   unfolding every
-  kept_start = record { count = 0; flat = refl; pairs_counted = refl; cells_counted = refl; wide_is = refl; cells_held_lem = refl; forbidden_held = refl }
+  kept_start = record { count = 0; flat = refl; pairs_counted = refl; cells_counted = refl; wide_is = refl; cells_held = refl; forbidden_held = refl }
 
   module _ (g : Given) (a : List Float) (q ps : List ℕ) (zs : List ℤ) (h : K g a q ps zs) where
     pub kept_cfg : (n d m t : ℕ) → K (with_cfg g n d m t) a q ps zs
@@ -62,7 +62,7 @@ module _ (cells₀ : List Float) (forbidden₀ : List ℕ) where
           pairs_counted = h.pairs_counted;
           cells_counted = h.cells_counted;
           wide_is = h.wide_is;
-          cells_held_lem = h.cells_held_lem;
+          cells_held = h.cells_held;
           forbidden_held = h.forbidden_held;
         }
 
@@ -81,11 +81,11 @@ module _ (cells₀ : List Float) (forbidden₀ : List ℕ) where
           either (leb 2048 (length zs))
           (λ t.
           let w : 2048 ≤ length zs = leb-true 2048 (length zs) t in
-          rw (le-leb 2048 g.cells (omega (arith, h.cells_counted))) (h.cells_held_lem ∙ held_full 2048 xs cells₀ (x ∷ []) (omega (arith, long))))
+          rw (le-leb 2048 g.cells (omega (arith, h.cells_counted))) (h.cells_held ∙ held_full 2048 xs cells₀ (x ∷ []) (omega (arith, long))))
           (λ t.
           let w : length zs < 2048 = leb-false 2048 (length zs) t in
           let e : g.cells ≡ length xs = omega (arith, h.cells_counted, long) in
-          rw (lt-leb 2048 g.cells (omega (arith, h.cells_counted)), e, h.cells_held_lem) (held_set 2048 xs cells₀ x room (omega (arith, long))))
+          rw (lt-leb 2048 g.cells (omega (arith, h.cells_counted)), e, h.cells_held) (held_set 2048 xs cells₀ x room (omega (arith, long))))
 
       kept_cell : K (with_cell g (not (is_reading z))) (stored_cell g.cells x a) q ps (zs ++ (z ∷ []))
       kept_cell =
@@ -95,7 +95,7 @@ module _ (cells₀ : List Float) (forbidden₀ : List ℕ) where
             pairs_counted = h.pairs_counted;
             cells_counted = up_min 2049 (length zs) g.cells h.cells_counted ∙ ap (λ (n : ℕ). min n 2049) (sym (length-append zs (z ∷ [])));
             wide_is = ap (λ (t : Bool). t || not (is_reading z)) h.wide_is ∙ not_both (every is_reading zs) (is_reading z) ∙ ap not (sym (every_last is_reading zs z));
-            cells_held_lem = cell_kept ∙ ap (λ (l : List Float). holding (take 2048 l) cells₀) (sym (map_last (of_int binary64) zs z));
+            cells_held = cell_kept ∙ ap (λ (l : List Float). holding (take 2048 l) cells₀) (sym (map_last (of_int binary64) zs z));
             forbidden_held = h.forbidden_held;
           }
 
@@ -121,7 +121,7 @@ module _ (cells₀ : List Float) (forbidden₀ : List ℕ) where
             pairs_counted = up_min 65 h.count g.pairs h.pairs_counted;
             cells_counted = h.cells_counted;
             wide_is = h.wide_is;
-            cells_held_lem = h.cells_held_lem;
+            cells_held = h.cells_held;
             forbidden_held = pair_kept;
           }
 

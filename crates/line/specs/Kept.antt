@@ -14,5 +14,5 @@ pub record Kept (cells₀ : List Float) (forbidden₀ : List ℕ) (g : Given) (c
   pub pairs_counted : g.pairs ≡ min count 65
   pub cells_counted : g.cells ≡ min (length readings) 2049
   pub wide_is : g.wide ≡ not (every is_reading readings)
-  pub cells_held_lem : cells ≡ holding (take 2048 (map (of_int binary64) readings)) cells₀
+  pub cells_held : cells ≡ holding (take 2048 (map (of_int binary64) readings)) cells₀
   pub forbidden_held : forbidden ≡ holding (take 128 pairs) forbidden₀

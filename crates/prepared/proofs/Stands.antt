@@ -8,7 +8,6 @@ use lib.Ieee.{Float}
 use lib.ListN.{length, take}
 use Rattle.scope.specs.Lists.{holding}
 use Rattle.scope.specs.Asked.{Matrix, Source}
-use Rattle.scope.specs.Asked as asked
 use Rattle.scope.specs.Sums.{prefix_sums}
 use Rattle.scope.specs.Layers.{StoredSegment}
 use Rattle.scope.specs.Draws.{most_stored}

@@ -1,7 +1,6 @@
 -- `answer` meets its contract: variant by variant, and what is written is right.
 use native.Mathlib.Omega.{arith}
 use Rattle.answers.proofs.Said.{written_said}
-use borrow.Author.Rules.{rules}
 use Rattle.answers.proofs.answer.Goals as goal
 
 pub returns-in-Bad : goal.returns-in-Bad

@@ -2,7 +2,6 @@
 use native.Mathlib.Omega.{arith}
 use Rattle.limits.proofs.Clean.{GivenClean, given_clean}
 use Rattle.answers.proofs.Grown.{grew}
-use borrow.Author.Rules.{rules}
 use Rattle.answers.proofs.grow.Goals as goal
 use Rattle.answers.proofs.grow.Lts as lts
 use Rattle.answers.proofs.grow.Tie as tie

@@ -1,11 +1,8 @@
 -- `any_past` meets its contract: the draws passed stop within the run, and so it turns on the rest.
-use mathlib.Core.Path.{◌≡◌, sym, ◌∙◌, ap}
-use Prim.Native.Nat.{◌-◌, ◌≤◌}
+use mathlib.Core.Path.{sym, ◌∙◌, ap}
 use native.Mathlib.Omega.{arith}
-use lib.ListN.{length, drop}
-use Rattle.scope.specs.Draws.{is_past, any_past}
+use Rattle.scope.specs.Draws.{is_past}
 use Rattle.draws.proofs.Past.{past_next, past_end}
-use borrow.Author.Rules.{rules}
 use Rattle.draws.proofs.any_past.Goals as goal
 
 pub returns-then-is_past : goal.returns-then-is_past

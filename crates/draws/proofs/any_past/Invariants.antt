@@ -1,11 +1,8 @@
 -- What the loop of `any_past` keeps.
-use mathlib.Core.Path.{◌≡◌, sym, ◌∙◌, ap}
+use mathlib.Core.Path.{◌≡◌}
 use Prim.Native.Nat.{◌-◌, ◌≤◌}
-use native.Mathlib.Omega.{arith}
 use lib.ListN.{length, drop}
-use Rattle.scope.specs.Draws.{is_past, any_past}
-use Rattle.draws.proofs.Past.{past_next, past_end}
-use borrow.Author.Rules.{rules}
+use Rattle.scope.specs.Draws.{any_past}
 use Rattle.draws.proofs.any_past.Given as goal
 
 abbrev pub invariant-loop-i : goal.invariant-loop-i

@@ -2,7 +2,6 @@
 use mathlib.Core.Path.{sym, ◌∙◌}
 use Rattle.scope.specs.Layers.{layers_total}
 use Rattle.draws.proofs.Given.{by_layers, by_wild}
-use borrow.Author.Rules.{rules}
 use Rattle.draws.proofs.most_stored.Goals as goal
 
 pub returns-then-draws-eq0 : goal.returns-then-draws-eq0

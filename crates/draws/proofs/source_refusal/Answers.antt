@@ -6,7 +6,6 @@ use borrow.Author.Tests.{lt-ltb, le-ltb}
 use Rattle.scope.specs.Refusals.{Test}
 use Rattle.scope.specs.Draws.{source_tests}
 use Rattle.control.proofs.Clean.{answers}
-use borrow.Author.Rules.{rules}
 use Rattle.draws.proofs.source_refusal.Goals as goal
 use Rattle.draws.proofs.source_refusal.Lts as lts
 use Rattle.draws.proofs.source_refusal.Tie as tie

@@ -8,7 +8,6 @@ use Rattle.segmentation.specs.Segments.{Slices, stored_asked}
 use Rattle.segmentation.proofs.Held.{none_held, all_held}
 use Rattle.entry_mean.specs.Answers.{count_of}
 use Rattle.entry_mean.specs.declared.Count.TheVariants.{Written}
-use borrow.Author.Rules.{rules}
 use Rattle.entry_segments.proofs.stored_segments.Goals as goal
 use Rattle.entry_segments.proofs.stored_segments.Lts as lts
 use Rattle.entry_segments.proofs.stored_segments.Tie as tie

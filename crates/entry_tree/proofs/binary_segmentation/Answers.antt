@@ -1,5 +1,4 @@
 -- `binary_segmentation` meets its contract: what is prepared is ready to be grown, and growing it leaves what the call tells.
-use Rattle.std.proofs.Common.{length}
 use Rattle.entry_tree.proofs.Whole.{tree_readied, tree_left}
 use Rattle.entry_tree.proofs.binary_segmentation.Goals as goal
 

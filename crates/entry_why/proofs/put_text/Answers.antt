@@ -1,6 +1,6 @@
 -- `put_text` meets its contract: a cut's origin, and for any other answer nothing.
 use mathlib.Core.Path.{◌≡◌, refl}
-use mathlib.Core.List.{[], ◌∷◌}
+use mathlib.Core.List.{[]}
 use native.Mathlib.Omega.{arith}
 use Rattle.scope.specs.Why.{text_of}
 use Rattle.rows.specs.declared.Segment.{Segment}
@@ -9,7 +9,6 @@ use Rattle.reasons.specs.declared.Why.{Why}
 use Rattle.reasons.specs.declared.Why.TheVariants.{Cut, TooNear, Barred, NoNumber, NotAbove}
 use Rattle.reasons.specs.Answers.{to_why}
 use Rattle.report.proofs.Texts.{written_length}
-use borrow.Author.Rules.{rules}
 use Rattle.entry_why.proofs.put_text.Goals as goal
 
 -- what is no cut has no text

@@ -16,7 +16,6 @@ use Rattle.prepared.proofs.Stands.{segments, Stands, matrix_stands}
 use Rattle.entry_why.specs.Left.{why_asked}
 use Rattle.entry_why.proofs.Clean.{WhyClean, why_clean}
 use Rattle.entry_why.proofs.Told.{refused_told, text_fits, told}
-use borrow.Author.Rules.{rules}
 use Rattle.entry_why.proofs.why.Goals as goal
 use Rattle.entry_why.proofs.why.Lts as lts
 use Rattle.entry_why.proofs.why.Tie as tie

@@ -14,7 +14,6 @@ use Rattle.scope.specs.Why.{why_tests, why_refusal}
 use Rattle.control.specs.Settings.{settings_of}
 use Rattle.control.proofs.Clean.{answers, stops, passes}
 use Rattle.prepared.proofs.Clean.{RunClean, run_clean}
-use borrow.Author.Rules.{rules}
 use Rattle.entry_why.proofs.why_refusal.Goals as goal
 use Rattle.entry_why.proofs.why_refusal.Lts as lts
 use Rattle.entry_why.proofs.why_refusal.Tie as tie

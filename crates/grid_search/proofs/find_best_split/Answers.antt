@@ -6,7 +6,6 @@ use Rattle.scope.specs.Grid.{Record}
 use Rattle.control.specs.Settings.{shortest_of}
 use Rattle.optimizer.specs.Records.{best_split_of, split_found, searched}
 use Rattle.optimizer.proofs.Answered.{record_given, number_given}
-use borrow.Author.Rules.{rules}
 use Rattle.grid_search.proofs.find_best_split.Goals as goal
 use Rattle.grid_search.proofs.find_best_split.Lts as lts
 use Rattle.grid_search.proofs.find_best_split.Tie as tie

@@ -1,17 +1,14 @@
 -- `greatest` meets its contract: after k rows the record is the best of the candidates among them.
 use mathlib.Core.Path.{◌≡◌, refl, sym, ◌∙◌, ap}
-use mathlib.Core.Logic.{⊎_elim}
-use Prim.Native.Nat.{◌+◌, ◌-◌, ◌≤◌}
+use Prim.Native.Nat.{◌+◌}
 use native.Mathlib.Omega.{arith}
-use borrow.Author.Tests.{not-true, not-false}
 use Rattle.scope.specs.Candidates.{range_size}
 use Rattle.scope.specs.Gain.{gain_of}
 use Rattle.scope.specs.Grid.{blank}
 use Rattle.scope.proofs.Candidates.{one_at_most}
 use Rattle.optimizer.specs.Records.{to_record}
-use Rattle.optimizer.proofs.Walk.{best_walked, best_none, best_barred, best_tried, best_all}
+use Rattle.optimizer.proofs.Walk.{best_none, best_barred, best_tried, best_all}
 use Rattle.control.specs.Settings.{shortest_of}
-use borrow.Author.Rules.{rules}
 use Rattle.grid_search.proofs.greatest.Goals as goal
 use Rattle.grid_search.proofs.greatest.Goals.{then-not-is_barred, else-not-is_barred}
 
@@ -36,8 +33,8 @@ loop-k-preserved c =
     let first = s.start.0 + s.shortest.m in (
       omega arith,
       elim c.if-not-is_barred.branch [
-      then-not-is_barred w ↦ ap to_record w.record-is ∙ w.better-record.ensures ∙ rw row (best_tried g s.forbidden.now s.start.0 s.stop.0 (blank s.start.0 s.stop.0) refl refl first at.k _ _ (rw row at (sym b.ensures ∙ w.if-not-is_barred.true)) at.invariant.1 (rw row at w.gain.ensures))
-      | else-not-is_barred w ↦ ap to_record w.record-is ∙ at.invariant.1 ∙ best_barred g s.forbidden.now s.start.0 s.stop.0 (blank s.start.0 s.stop.0) first at.k (rw row at (sym b.ensures ∙ w.if-not-is_barred.false))
+        | then-not-is_barred w ↦ ap to_record w.record-is ∙ w.better-record.ensures ∙ rw row (best_tried g s.forbidden.now s.start.0 s.stop.0 (blank s.start.0 s.stop.0) refl refl first at.k _ _ (rw row at (sym b.ensures ∙ w.if-not-is_barred.true)) at.invariant.1 (rw row at w.gain.ensures))
+        | else-not-is_barred w ↦ ap to_record w.record-is ∙ at.invariant.1 ∙ best_barred g s.forbidden.now s.start.0 s.stop.0 (blank s.start.0 s.stop.0) first at.k (rw row at (sym b.ensures ∙ w.if-not-is_barred.false))
       ],
     )
 

@@ -1,17 +1,10 @@
 -- What the loop of `greatest` keeps.
-use mathlib.Core.Path.{◌≡◌, refl, sym, ◌∙◌, ap}
-use mathlib.Core.Logic.{⊎_elim}
+use mathlib.Core.Path.{◌≡◌}
 use Prim.Native.Nat.{◌+◌, ◌-◌, ◌≤◌}
-use native.Mathlib.Omega.{arith}
-use borrow.Author.Tests.{not-true, not-false}
-use Rattle.scope.specs.Candidates.{range_size}
 use Rattle.scope.specs.Gain.{gain_of}
 use Rattle.scope.specs.Grid.{blank}
-use Rattle.scope.proofs.Candidates.{one_at_most}
 use Rattle.optimizer.specs.Records.{to_record}
-use Rattle.optimizer.proofs.Walk.{best_walked, best_none, best_barred, best_tried, best_all}
-use Rattle.control.specs.Settings.{shortest_of}
-use borrow.Author.Rules.{rules}
+use Rattle.optimizer.proofs.Walk.{best_walked}
 use Rattle.grid_search.proofs.greatest.Given as goal
 
 abbrev pub invariant-loop-k : goal.invariant-loop-k

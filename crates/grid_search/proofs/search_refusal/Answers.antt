@@ -11,7 +11,6 @@ use Rattle.control.specs.Settings.{shortest_of}
 use Rattle.control.proofs.Clean.{answers, stops, passes, passed}
 use Rattle.scope.proofs.Candidates.{not_outside}
 use Rattle.control.proofs.Sizes.{Matrix, matrix}
-use borrow.Author.Rules.{rules}
 use Rattle.grid_search.proofs.search_refusal.Goals as goal
 use Rattle.grid_search.proofs.search_refusal.Lts as lts
 use Rattle.grid_search.proofs.search_refusal.Tie as tie

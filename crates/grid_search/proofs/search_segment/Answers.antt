@@ -11,7 +11,6 @@ use Rattle.control.specs.Settings.{shortest_of}
 use Rattle.optimizer.specs.Records.{searched, searched_of}
 use Rattle.optimizer.specs.declared.optimizer_result.Searched.TheVariants as handed
 use Rattle.optimizer.proofs.Origins.{from_to}
-use borrow.Author.Rules.{rules}
 use Rattle.grid_search.proofs.search_segment.Goals as goal
 use Rattle.grid_search.proofs.search_segment.Lts as lts
 use Rattle.grid_search.proofs.search_segment.Tie as tie

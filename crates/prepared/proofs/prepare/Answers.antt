@@ -13,7 +13,6 @@ use Rattle.segmentation.proofs.Held.{none_held, all_held}
 use Rattle.prepared.specs.Answers.{tree_asked, prepared_of}
 use Rattle.prepared.specs.declared.Prepared.TheVariants.{Stored}
 use Rattle.prepared.proofs.Clean.{tree_clean}
-use borrow.Author.Rules.{rules}
 use Rattle.prepared.proofs.prepare.Goals as goal
 use Rattle.prepared.proofs.prepare.Lts as lts
 use Rattle.prepared.proofs.prepare.Tie as tie

@@ -14,7 +14,6 @@ use Rattle.scope.specs.Calls.{room_tests}
 use Rattle.control.specs.Settings.{shortest_of}
 use Rattle.control.proofs.Clean.{answers}
 use Rattle.draws.proofs.Given.{stored_most}
-use borrow.Author.Rules.{rules}
 use Rattle.prepared.proofs.room_refusal.Goals as goal
 use Rattle.prepared.proofs.room_refusal.Lts as lts
 use Rattle.prepared.proofs.room_refusal.Tie as tie

@@ -8,7 +8,6 @@ use Rattle.scope.specs.Refusals.{Test, first_of}
 use Rattle.scope.specs.Calls.{run_tests}
 use Rattle.control.specs.Settings.{settings_of}
 use Rattle.control.proofs.Clean.{answers, stops, passes}
-use borrow.Author.Rules.{rules}
 use Rattle.prepared.proofs.run_refusal.Goals as goal
 use Rattle.prepared.proofs.run_refusal.Lts as lts
 use Rattle.prepared.proofs.run_refusal.Tie as tie

@@ -9,7 +9,6 @@ use Rattle.scope.specs.Calls.{TreeAsked, tree_tests, tree_refusal}
 use Rattle.control.specs.Settings.{settings_of}
 use Rattle.control.proofs.Clean.{answers, stops, passes}
 use Rattle.prepared.proofs.Clean.{RunClean, run_clean}
-use borrow.Author.Rules.{rules}
 use Rattle.prepared.proofs.tree_refusal.Goals as goal
 use Rattle.prepared.proofs.tree_refusal.Lts as lts
 use Rattle.prepared.proofs.tree_refusal.Tie as tie

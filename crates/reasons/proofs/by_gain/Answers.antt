@@ -1,6 +1,5 @@
 -- `by_gain` meets its contract: by the test for NaN.
 use mathlib.Core.Path.{sym, ◌∙◌}
-use borrow.Author.Rules.{rules}
 use Rattle.reasons.proofs.by_gain.Goals as goal
 
 pub returns-then-is_nan : goal.returns-then-is_nan

@@ -1,20 +1,12 @@
 -- `explain` meets its contract: the segment is one that holds the row, down to the one that it is told of.
-use mathlib.Core.Path.{◌≡◌, sym, ◌∙◌, ap}
-use mathlib.Core.List.{List}
-use Prim.Native.Nat.{◌-◌}
+use mathlib.Core.Path.{sym, ◌∙◌, ap}
 use native.Mathlib.Omega.{arith}
-use lib.ListN.{length}
-use Rattle.scope.specs.Grid.{Record}
-use Rattle.scope.specs.Tree.{cut, verdict}
 use Rattle.stored.specs.Flat.{records_in}
-use Rattle.optimizer.specs.Records.{to_record}
 use Rattle.optimizer.proofs.Origins.{from_to_origin}
-use Rattle.demand.proofs.Cut.{Far}
-use Rattle.verdict.specs.Rules.{run_over, over, Sized}
+use Rattle.verdict.specs.Rules.{over}
 use Rattle.verdict.proofs.Sized.{sized_within}
 use Rattle.reasons.specs.declared.Why.TheVariants as why
-use Rattle.reasons.proofs.Walk.{not_cut, Down, down_whole, told_uncut, told_cut, far, down_left, down_right}
-use borrow.Author.Rules.{rules}
+use Rattle.reasons.proofs.Walk.{not_cut, down_whole, told_uncut, told_cut, far, down_left, down_right}
 use Rattle.reasons.proofs.explain.Goals as goal
 
 pub loop-choice-init : goal.loop-choice-init

@@ -1,12 +1,8 @@
 -- `first_barring` meets its contract: no pair passed bars the row, and so it turns on the rest.
-use mathlib.Core.Path.{◌≡◌, sym, ◌∙◌, ap}
-use Prim.Native.Nat.{◌-◌, ◌≤◌}
+use mathlib.Core.Path.{sym, ◌∙◌, ap}
 use native.Mathlib.Omega.{arith}
-use lib.ListN.{length, drop}
-use Rattle.scope.specs.Why.{first_barring}
 use Rattle.reasons.specs.Answers.{from_barring}
 use Rattle.reasons.proofs.Barred.{barring_next, barring_none}
-use borrow.Author.Rules.{rules}
 use Rattle.reasons.proofs.first_barring.Goals as goal
 
 pub returns-then-bars : goal.returns-then-bars

@@ -1,12 +1,8 @@
 -- What the loop of `first_barring` keeps.
-use mathlib.Core.Path.{◌≡◌, sym, ◌∙◌, ap}
+use mathlib.Core.Path.{◌≡◌}
 use Prim.Native.Nat.{◌-◌, ◌≤◌}
-use native.Mathlib.Omega.{arith}
 use lib.ListN.{length, drop}
 use Rattle.scope.specs.Why.{first_barring}
-use Rattle.reasons.specs.Answers.{from_barring}
-use Rattle.reasons.proofs.Barred.{barring_next, barring_none}
-use borrow.Author.Rules.{rules}
 use Rattle.reasons.proofs.first_barring.Given as goal
 
 abbrev pub invariant-loop-i : goal.invariant-loop-i

@@ -5,7 +5,6 @@ use Rattle.scope.specs.Asked.{end_of}
 use Rattle.scope.specs.Why.{is_near}
 use Rattle.control.specs.Settings.{shortest_of}
 use Rattle.reasons.proofs.Barred.{at_least}
-use borrow.Author.Rules.{rules}
 use Rattle.reasons.proofs.is_near.Goals as goal
 
 pub returns-then-row-segment : goal.returns-then-row-segment

@@ -7,7 +7,6 @@ use Rattle.scope.specs.Why.{is_near, first_barring}
 use Rattle.control.specs.Settings.{shortest_of}
 use Rattle.rows.specs.Segments.{to_segment}
 use Rattle.reasons.proofs.Barred.{told_barred, told_free}
-use borrow.Author.Rules.{rules}
 use Rattle.reasons.proofs.reason_in.Goals as goal
 use Rattle.reasons.proofs.reason_in.Lts as lts
 use Rattle.reasons.proofs.reason_in.Tie as tie

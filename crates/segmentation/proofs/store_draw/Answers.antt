@@ -6,7 +6,6 @@ use borrow.Author.Tests.{ltb-true, not-true, not-false}
 use Rattle.scope.specs.Draws.{is_searched}
 use Rattle.rows.specs.Segments.{to_segment}
 use Rattle.stored.proofs.Flat.{put_none, put_long}
-use borrow.Author.Rules.{rules}
 use Rattle.std.proofs.Common.{ap, not}
 use Rattle.segmentation.proofs.store_draw.Goals as goal
 use Rattle.segmentation.proofs.store_draw.Lts as lts

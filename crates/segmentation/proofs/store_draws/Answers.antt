@@ -1,15 +1,13 @@
 -- `store_draws` meets its contract: before each pair, those records stand that the pairs passed have left, and the rest of the list is to leave the others.
 use mathlib.Core.Option.{Option}
-use Prim.Native.Nat.{ℕ, ◌-◌, ◌≤◌}
+use Prim.Native.Nat.{ℕ}
 use native.Mathlib.Omega.{arith}
-use lib.ListN.{length}
 use Rattle.scope.specs.Grid.{Record}
 use Rattle.control.specs.Settings.{shortest_of}
 use Rattle.stored.proofs.Flat.{put_long}
 use Rattle.segmentation.specs.Segments.{search_over}
 use Rattle.segmentation.proofs.Clean.{draw_within}
-use Rattle.segmentation.proofs.Drawing.{Drawing, drawing_none, drawing_pair, drawing_next, drawing_ends, drawing_full}
-use borrow.Author.Rules.{rules}
+use Rattle.segmentation.proofs.Drawing.{drawing_none, drawing_pair, drawing_next, drawing_ends, drawing_full}
 use Rattle.segmentation.proofs.store_draws.Goals as goal
 use Rattle.segmentation.proofs.store_draws.Lts as lts
 use Rattle.segmentation.proofs.store_draws.Tie as tie

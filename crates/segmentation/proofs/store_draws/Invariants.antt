@@ -1,15 +1,9 @@
 -- What the loop of `store_draws` keeps.
-use mathlib.Core.Option.{Option}
-use Prim.Native.Nat.{ℕ, ◌-◌, ◌≤◌}
-use native.Mathlib.Omega.{arith}
+use Prim.Native.Nat.{◌-◌, ◌≤◌}
 use lib.ListN.{length}
-use Rattle.scope.specs.Grid.{Record}
 use Rattle.control.specs.Settings.{shortest_of}
-use Rattle.stored.proofs.Flat.{put_long}
 use Rattle.segmentation.specs.Segments.{search_over}
-use Rattle.segmentation.proofs.Clean.{draw_within}
-use Rattle.segmentation.proofs.Drawing.{Drawing, drawing_none, drawing_pair, drawing_next, drawing_ends, drawing_full}
-use borrow.Author.Rules.{rules}
+use Rattle.segmentation.proofs.Drawing.{Drawing}
 use Rattle.segmentation.proofs.store_draws.Given as goal
 
 abbrev pub invariant-loop-i : goal.invariant-loop-i

@@ -1,17 +1,14 @@
 -- `store_layer` meets its contract: after id segments their records stand behind the place, id at most.
 use mathlib.Core.Path.{◌≡◌}
-use mathlib.Core.List.{map}
-use Prim.Native.Nat.{◌+◌, ◌-◌, ◌≤◌}
+use Prim.Native.Nat.{◌+◌, ◌≤◌}
 use native.Mathlib.Nat.{mul-le-mul_right}
 use native.Mathlib.Omega.{arith}
 use Rattle.scope.specs.Origin.{layer as of_layer}
-use Rattle.scope.specs.Layers.{of_origin, layer_segments, stored}
-use Rattle.stored.specs.Flat.{Put}
-use Rattle.segmentation.specs.Segments.{search_over, stored_over}
+use Rattle.scope.specs.Layers.{layer_segments, stored}
+use Rattle.segmentation.specs.Segments.{search_over}
 use Rattle.stored.proofs.Flat.{put_none, put_more, put_long}
 use Rattle.segmentation.proofs.Stored.{layer_next, layer_few}
 use Rattle.control.specs.Settings.{shortest_of}
-use borrow.Author.Rules.{rules}
 use Rattle.segmentation.proofs.store_layer.Goals as goal
 
 pub loop-id-init : goal.loop-id-init

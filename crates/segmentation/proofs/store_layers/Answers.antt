@@ -1,17 +1,15 @@
 -- `store_layers` meets its contract: after i layers the records of the first i stand at the front.
 use mathlib.Core.Path.{◌∙◌, ap}
-use Prim.Native.Nat.{◌+◌, ◌-◌, ◌≤◌}
+use Prim.Native.Nat.{◌+◌}
 use native.Mathlib.Omega.{arith}
-use lib.ListN.{length, take}
+use lib.ListN.{take}
 use lib.Seq.{take_all}
-use Rattle.scope.specs.Layers.{layer_count, seeded_from, seeded, stored}
-use Rattle.stored.specs.Flat.{Put}
-use Rattle.segmentation.specs.Segments.{search_over, stored_over}
+use Rattle.scope.specs.Layers.{layer_count, seeded_from, stored}
+use Rattle.segmentation.specs.Segments.{search_over}
 use Rattle.stored.proofs.Flat.{put_none, put_more, put_long}
 use Rattle.layers.proofs.Layered.{right_at, total_next, total_within}
 use Rattle.segmentation.proofs.Stored.{layers_next, layers_few}
 use Rattle.control.specs.Settings.{shortest_of}
-use borrow.Author.Rules.{rules}
 use Rattle.segmentation.proofs.store_layers.Goals as goal
 
 pub loop-i-init : goal.loop-i-init

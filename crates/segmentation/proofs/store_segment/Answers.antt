@@ -5,7 +5,6 @@ use Rattle.scope.specs.Gain.{gain_of}
 use Rattle.stored.proofs.Flat.{put_none}
 use Rattle.optimizer.proofs.Answered.{record_some, refused_none}
 use Rattle.control.specs.Settings.{shortest_of}
-use borrow.Author.Rules.{rules}
 use Rattle.segmentation.proofs.store_segment.Goals as goal
 
 pub returns-in_default : goal.returns-in_default

@@ -11,7 +11,6 @@ use Rattle.stored.specs.Flat.{Put}
 use Rattle.stored.proofs.Flat.{put_long, put_told}
 use Rattle.segmentation.specs.Segments.{stored_asked}
 use Rattle.segmentation.proofs.Clean.{StoredClean, stored_clean, draws_within}
-use borrow.Author.Rules.{rules}
 use Rattle.segmentation.proofs.store_segments.Goals as goal
 use Rattle.segmentation.proofs.store_segments.Lts as lts
 use Rattle.segmentation.proofs.store_segments.Tie as tie

@@ -12,7 +12,6 @@ use Rattle.scope.specs.Calls.{stored_tests, stored_refusal}
 use Rattle.control.specs.Settings.{shortest_of}
 use Rattle.control.proofs.Clean.{answers, stops, passes, passed}
 use Rattle.control.proofs.Sizes.{Matrix, matrix}
-use borrow.Author.Rules.{rules}
 use Rattle.segmentation.proofs.stored_refusal.Goals as goal
 use Rattle.segmentation.proofs.stored_refusal.Lts as lts
 use Rattle.segmentation.proofs.stored_refusal.Tie as tie

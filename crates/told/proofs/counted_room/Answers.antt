@@ -1,5 +1,4 @@
 -- `counted_room` meets its contract.
-use mathlib.Core.Path.{sym}
 use native.Mathlib.Omega.{arith}
 use borrow.Author.Tests.{lt-ltb, le-ltb}
 use Rattle.told.specs.Told.{counted_room}

@@ -1,7 +1,6 @@
 -- `put` meets its contract: past the end nothing is stored.
 use mathlib.Core.Path.{sym}
 use lib.Seq.{set_out}
-use borrow.Author.Rules.{rules}
 use Rattle.told.proofs.put.Goals as goal
 
 pub returns-then-at-counts : goal.returns-then-at-counts

@@ -1,6 +1,5 @@
 -- `put_why` meets its contract: the reason's number, the segment's ends, and what else it has.
 use mathlib.Core.Path.{refl}
-use borrow.Author.Rules.{rules}
 use Rattle.told.proofs.put_why.Goals as goal
 
 pub returns-in-Cut : goal.returns-in-Cut

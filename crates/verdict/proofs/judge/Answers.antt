@@ -1,9 +1,8 @@
 -- `judge` meets its contract: by what the search finds, and by the test of the choice.
-use mathlib.Core.Path.{refl, sym, ◌∙◌}
+use mathlib.Core.Path.{sym, ◌∙◌}
 use Rattle.stored.specs.Flat.{records_in}
 use Rattle.verdict.specs.Rules.{over}
 use Rattle.verdict.proofs.Judged.{judged_none, judged_cut, judged_uncut}
-use borrow.Author.Rules.{rules}
 use Rattle.verdict.proofs.judge.Goals as goal
 
 pub returns-in_default : goal.returns-in_default

@@ -3,7 +3,6 @@ use mathlib.Core.Path.{refl}
 use native.Mathlib.Omega.{arith}
 use Rattle.limits.proofs.Clean.{GivenClean, given_clean}
 use Rattle.why_answers.proofs.Told.{tells}
-use borrow.Author.Rules.{rules}
 use Rattle.why_answers.proofs.explain.Goals as goal
 use Rattle.why_answers.proofs.explain.Lts as lts
 use Rattle.why_answers.proofs.explain.Tie as tie

@@ -1,5 +1,4 @@
 -- `judge` meets its contract: by the verdict, and the record that is appended.
-use borrow.Author.Rules.{rules}
 use Rattle.verdict.specs.Rules.{over}
 use Rattle.binary_segmentation.proofs.Judging.{judged_none, judged_cut, judged_uncut}
 use Rattle.binary_segmentation.proofs.tree.judge.Goals as goal

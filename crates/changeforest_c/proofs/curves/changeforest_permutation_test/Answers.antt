@@ -1,9 +1,6 @@
 -- `changeforest_permutation_test` meets its contract: the enum's case, told as a number and three stored parts.
 use mathlib.Core.Path.{sym, ◌∙◌}
-use mathlib.Core.List.{[], ◌∷◌}
-use Rattle.scope.specs.Calls.{PermutationAsked, permutation_answer}
 use Rattle.changeforest_c.proofs.Heard.{permuted_given, permuted_refused}
-use borrow.Author.Rules.{rules}
 use Rattle.changeforest_c.proofs.curves.changeforest_permutation_test.Goals as goal
 
 pub returns-in-Tested : goal.returns-in-Tested

@@ -1,8 +1,6 @@
 -- `changeforest_close` meets its contract: the enum's case, told as a number.
 use mathlib.Core.Path.{sym, ◌∙◌}
-use Rattle.scope.specs.Feed.{State, close_answer}
 use Rattle.changeforest_c.proofs.Heard.{fed_given, fed_refused}
-use borrow.Author.Rules.{rules}
 use Rattle.changeforest_c.proofs.feeding.changeforest_close.Goals as goal
 
 pub returns-in-State : goal.returns-in-State

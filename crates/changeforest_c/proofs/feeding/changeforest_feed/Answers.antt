@@ -1,8 +1,6 @@
 -- `changeforest_feed` meets its contract: the enum's case, told as a number and a stored count.
 use mathlib.Core.Path.{sym, ◌∙◌}
-use Rattle.scope.specs.Feed.{FeedAsked, feed_call}
 use Rattle.changeforest_c.proofs.Heard.{fed_given, fed_refused}
-use borrow.Author.Rules.{rules}
 use Rattle.changeforest_c.proofs.feeding.changeforest_feed.Goals as goal
 
 pub returns-in-State : goal.returns-in-State

@@ -1,10 +1,6 @@
 -- `changeforest_minimal_segment_length` meets its contract: the enum's case, told as a number and a stored length.
 use mathlib.Core.Path.{sym, ◌∙◌}
-use Prim.Native.Nat.{ℕ}
-use Rattle.scope.specs.Refusals.{Answer}
-use Rattle.scope.specs.Calls.{length_answer}
 use Rattle.changeforest_c.proofs.Heard.{length_given, length_refused}
-use borrow.Author.Rules.{rules}
 use Rattle.changeforest_c.proofs.lengths.changeforest_minimal_segment_length.Goals as goal
 
 pub returns-in-Rows : goal.returns-in-Rows

@@ -1,9 +1,6 @@
 -- `changeforest_find_best_split` meets its contract: the enum's case, told as a number, a stored split and its gain.
 use mathlib.Core.Path.{sym, ◌∙◌}
-use lib.ListN.{length}
-use Rattle.scope.specs.Calls.{SearchAsked, search_call}
 use Rattle.optimizer.proofs.Answered.{found_given, refused_number}
-use borrow.Author.Rules.{rules}
 use Rattle.changeforest_c.proofs.mean.changeforest_find_best_split.Goals as goal
 
 pub returns-in-Found : goal.returns-in-Found

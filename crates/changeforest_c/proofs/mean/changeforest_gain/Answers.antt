@@ -1,9 +1,6 @@
 -- `changeforest_gain` meets its contract: the enum's case, told as a number and a stored gain.
 use mathlib.Core.Path.{sym, ◌∙◌}
-use lib.ListN.{length}
-use Rattle.scope.specs.Calls.{GainAsked, gain_call}
 use Rattle.changeforest_c.proofs.Heard.{gained_given, gained_refused}
-use borrow.Author.Rules.{rules}
 use Rattle.changeforest_c.proofs.mean.changeforest_gain.Goals as goal
 
 pub returns-in-Of : goal.returns-in-Of

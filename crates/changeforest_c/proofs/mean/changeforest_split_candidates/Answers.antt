@@ -1,9 +1,6 @@
 -- `changeforest_split_candidates` meets its contract: the enum's case, told as a number and a stored count.
 use mathlib.Core.Path.{sym, ◌∙◌}
-use lib.ListN.{length}
-use Rattle.scope.specs.Calls.{CandidatesAsked, candidates_call}
 use Rattle.changeforest_c.proofs.Heard.{count_given, count_refused}
-use borrow.Author.Rules.{rules}
 use Rattle.changeforest_c.proofs.mean.changeforest_split_candidates.Goals as goal
 
 pub returns-in-Written : goal.returns-in-Written

@@ -1,9 +1,6 @@
 -- `changeforest_stored_segments` meets its contract: the enum's case, told as a number and a stored count.
 use mathlib.Core.Path.{sym, ◌∙◌}
-use Rattle.scope.specs.Calls.{StoredAsked, stored_call}
-use Rattle.segmentation.specs.Segments.{stored_asked}
 use Rattle.changeforest_c.proofs.Heard.{count_given, count_refused}
-use borrow.Author.Rules.{rules}
 use Rattle.changeforest_c.proofs.segments.changeforest_stored_segments.Goals as goal
 
 pub returns-in-Written : goal.returns-in-Written

@@ -1,9 +1,8 @@
 -- `changeforest_guesses` meets its contract: the enum's case, told as a number, the rows of the struct's list and their count.
 use mathlib.Core.Path.{sym, ◌∙◌}
-use Rattle.scope.specs.Calls.{GuessesAsked, guesses_answer}
+use Rattle.scope.specs.Calls.{GuessesAsked}
 use Rattle.entry_two_step.specs.Answers.{list_given}
 use Rattle.changeforest_c.proofs.Guessed.{few_answered, guessed_given, guessed_refused}
-use borrow.Author.Rules.{rules}
 use Rattle.changeforest_c.proofs.two_step.changeforest_guesses.Goals as goal
 use Rattle.changeforest_c.proofs.two_step.changeforest_guesses.Lts as lts
 use Rattle.changeforest_c.proofs.two_step.changeforest_guesses.Tie as tie

@@ -1,8 +1,6 @@
 -- `changeforest_pick` meets its contract: the enum's case, told as a number, a stored split and its gain.
 use mathlib.Core.Path.{sym, ◌∙◌}
-use Rattle.scope.specs.Calls.{PickAsked, pick_answer}
 use Rattle.optimizer.proofs.Answered.{found_given, refused_number}
-use borrow.Author.Rules.{rules}
 use Rattle.changeforest_c.proofs.two_step.changeforest_pick.Goals as goal
 
 pub returns-in-Found : goal.returns-in-Found

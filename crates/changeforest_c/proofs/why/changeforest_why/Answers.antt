@@ -1,14 +1,8 @@
 -- `changeforest_why` meets its contract: the enum's case, told as a number and stored through the places.
-use mathlib.Core.Path.{◌≡◌, sym, ◌∙◌, ap}
-use Prim.Native.Nat.{ℕ}
+use mathlib.Core.Path.{sym, ◌∙◌, ap}
 use lib.ListN.{length}
-use Rattle.scope.specs.Asked.{Matrix, Settings}
-use Rattle.scope.specs.Refusals.{Answer, given}
-use Rattle.scope.specs.Why.{Why, text_of, WhyAsked, why_call}
-use Rattle.entry_why.specs.Left.{why_asked}
 use Rattle.reasons.specs.Answers.{to_why}
 use Rattle.changeforest_c.proofs.Heard.{why_given, why_refused, text_told, given_one, given_none}
-use borrow.Author.Rules.{rules}
 use Rattle.changeforest_c.proofs.why.changeforest_why.Goals as goal
 
 pub put_why-requires : goal.put_why-requires

@@ -1,5 +1,4 @@
 -- `Choice::of` meets its contract: the origin's kind and number.
-use borrow.Author.Rules.{rules}
 use Rattle.node.proofs.Choice.of.Goals as goal
 
 pub returns : goal.returns

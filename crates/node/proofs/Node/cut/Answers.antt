@@ -1,5 +1,4 @@
 -- `cut` meets its contract: the choice in numbers.
-use borrow.Author.Rules.{rules}
 use Rattle.node.proofs.Node.cut.Goals as goal
 
 pub returns : goal.returns

@@ -1,5 +1,4 @@
 -- `uncut` meets its contract: the choice in numbers.
-use borrow.Author.Rules.{rules}
 use Rattle.node.proofs.Node.uncut.Goals as goal
 
 pub returns : goal.returns

@@ -22,7 +22,6 @@ use Rattle.segmentation.proofs.Held.{none_held, all_held}
 use Rattle.prepared.specs.Answers.{room_in, prepared_of}
 use Rattle.prepared.specs.declared.Prepared.TheVariants.{Stored}
 use Rattle.prepared.proofs.Clean.{FedClean, fed_clean}
-use borrow.Author.Rules.{rules}
 use Rattle.prepared.proofs.fed.prepare.Goals as goal
 use Rattle.prepared.proofs.fed.prepare.Lts as lts
 use Rattle.prepared.proofs.fed.prepare.Tie as tie

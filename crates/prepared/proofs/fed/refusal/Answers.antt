@@ -11,7 +11,6 @@ use Rattle.control.specs.Settings.{settings_of}
 use Rattle.feed.specs.States.{state_of}
 use Rattle.control.proofs.Clean.{answers, stops, passes}
 use Rattle.prepared.proofs.Clean.{RunClean, fed_run_clean}
-use borrow.Author.Rules.{rules}
 use Rattle.prepared.proofs.fed.refusal.Goals as goal
 use Rattle.prepared.proofs.fed.refusal.Lts as lts
 use Rattle.prepared.proofs.fed.refusal.Tie as tie

@@ -9,7 +9,6 @@ use Rattle.scope.specs.Feed.{fed_run_tests}
 use Rattle.control.specs.Settings.{settings_of}
 use Rattle.feed.specs.States.{state_of}
 use Rattle.control.proofs.Clean.{answers}
-use borrow.Author.Rules.{rules}
 use Rattle.prepared.proofs.fed.run_refusal.Goals as goal
 use Rattle.prepared.proofs.fed.run_refusal.Lts as lts
 use Rattle.prepared.proofs.fed.run_refusal.Tie as tie
