@@ -1,6 +1,6 @@
 -- The same where the reader tells which bytes it has left, by std's `Read::remaining`: all of them are read, each once and in order, in whatever lots they come.
 -- A reader over memory tells them; standard input does not.
-use Rattle.std.specs.Prelude.{◌≡◌, ◌⊎◌, Option, List, ℕ, ◌≤◌, ◌<◌, Float, length, take}
+use Rattle.std.specs.Prelude.{◌≡◌, Option, List, ℕ, ◌≤◌, ◌<◌, Float, length, take}
 use Rattle.std.specs.Io.KnownBytes.{Consumes, IsAtEnd}
 use Rattle.scope.specs.Program.{read_input}
 use Rattle.deck.specs.declared.State.{State}
@@ -47,7 +47,3 @@ RestedOf xs s₀ cells₀ forbidden₀ cells forbidden input.Failed = Unit {0}
 abbrev pub TakenOf : List ℕ → List Float → List ℕ → List Float → List ℕ → Input → Type 0
 TakenOf xs cells₀ forbidden₀ cells forbidden (input.Read read) = 2048 ≤ length cells₀ → 128 ≤ length forbidden₀ → Says cells₀ forbidden₀ read cells forbidden (read_input xs)
 TakenOf xs cells₀ forbidden₀ cells forbidden input.Failed = Unit {0}
-
--- what is to be written: nothing, or the answer to these bytes, as P says
-abbrev pub ToldOf : (List ℕ → List ℕ → Type 0) → List ℕ → List ℕ → Type 0
-ToldOf P xs text = (length text ≡ 0) ⊎ P xs text

@@ -7,8 +7,7 @@
 
 ghost use Rattle.std.specs.Prelude.{◌≤◌, length, take, IfSome};
 ghost use Rattle.demand.specs.Printed.{Answers};
-ghost use Rattle.reading.specs.Told.{Told};
-ghost use Rattle.reading.specs.Known.{ToldOf};
+ghost use Rattle.reading.specs.Told.{Told, ToldOf};
 
 use answers::{CUTS, RECORDS, ROWS, TEXT};
 use limits::SUMS;

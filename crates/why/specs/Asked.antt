@@ -3,8 +3,7 @@ use Rattle.std.specs.Prelude.{◌≡◌, List, [], ◌∷◌, ℕ, ◌≤◌, le
 use Rattle.std.proofs.Math.Option.{Option, none, some}
 use Rattle.scope.specs.WhyText.{row_asked}
 use Rattle.demand.specs.Printed.{AnswersWhy}
-use Rattle.reading.specs.Told.{Told}
-use Rattle.reading.specs.Known.{ToldOf}
+use Rattle.reading.specs.Told.{Told, ToldOf}
 use Rattle.why.specs.declared.Asked.{Asked}
 use Rattle.why.specs.declared.Asked.TheVariants as asked
 use Rattle.why.specs.declared.Ran.{Ran}

@@ -10,8 +10,7 @@
 ghost use Rattle.std.specs.Prelude.{◌≡◌, [], ◌∷◌, ◌≤◌, length, take, IfSome};
 ghost use Rattle.scope.specs.WhyText.{row_asked};
 ghost use Rattle.demand.specs.Printed.{AnswersWhy};
-ghost use Rattle.reading.specs.Told.{Told};
-ghost use Rattle.reading.specs.Known.{ToldOf};
+ghost use Rattle.reading.specs.Told.{Told, ToldOf};
 ghost use Rattle.why.specs.Asked.{asked_of, RowTold, RowToldOf};
 
 use limits::SUMS;
