@@ -17,6 +17,3 @@ pub record State (ds : List Float) (row : ℕ) (out₀ out : List ℕ) (hole : �
 
 abbrev pub invariant-loop-hole : goal.invariant-loop-hole
 invariant-loop-hole l = State l.ds l.row l.initial.out l.out l.hole
-
-abbrev pub decreases-loop-hole : goal.decreases-loop-hole
-decreases-loop-hole l = length l.initial.out - l.hole
