@@ -1,5 +1,5 @@
 -- `sort` meets its contract: each half is put in order by a call on a shorter slice, and their merge is the whole in order. Assumes nothing.
-use Rattle.std.proofs.Common.{◌+◌, ◌-◌, ◌/◌, ◌≡◌, ◌∙◌, ap, arith, length, length-append}
+use Rattle.std.proofs.Common.{◌+◌, ◌/◌, ◌≡◌, ◌∙◌, ap, arith, length, length-append}
 use Rattle.scope.specs.Neighbours.{ordered}
 use Rattle.order.proofs.Halving.{merged_halves, halves_length, halves}
 use Rattle.order.proofs.+sort.Goals as goal

@@ -1,5 +1,5 @@
 -- `order::first_row` meets its contract. Assumes nothing.
-use Rattle.std.proofs.Common.{◌≡◌, Bool, true, false, List, [], ◌∷◌, ℕ, ◌<◌, cond, refl, sym, ◌∙◌, arith, length, get_or}
+use Rattle.std.proofs.Common.{◌≡◌, Bool, true, false, List, [], ◌∷◌, ℕ, ◌<◌, cond, refl, arith, length, get_or}
 use lib.Ieee.{Float}
 use Rattle.scope.specs.Neighbours.{is_nearer}
 use Rattle.order.specs.Rows.{merged}

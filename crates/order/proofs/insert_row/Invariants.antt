@@ -1,7 +1,7 @@
 -- What the loop of `insert_row` keeps.
 use mathlib.Core.Path.{◌≡◌}
 use mathlib.Core.List.{List, ◌++◌}
-use Prim.Native.Nat.{ℕ, ◌+◌, ◌-◌, ◌<◌}
+use Prim.Native.Nat.{ℕ, ◌+◌, ◌<◌}
 use lib.Ieee.{Float}
 use lib.ListN.{length, take, drop}
 use Rattle.scope.specs.Neighbours.{insert}
