@@ -45,13 +45,6 @@ written_so P {l} {xs} {m} {e} so w h =
 pub written_field : (f : List ℕ) {l m rest n : List ℕ} {at e k : ℕ} → Written l at (f ++ (9 ∷ [])) m e → Written m e rest n k → Written l at (f ++ (9 ∷ rest)) n k
 written_field f p q = rw append_assoc at (written_then p q)
 
--- ---- a byte of a text after another
-pub sets_next : (l text : List ℕ) (at i : ℕ) → i < length text → sets l (at + i) (drop i text) ≡ sets (set l (at + i) (get_or text i 0)) (at + (i + 1)) (drop (i + 1) text)
-sets_next l text at i h = let e : at + suc i ≡ suc (at + i) = omega arith in rw (add-one, drop-cons text i 0 h, e)
-
-pub sets_none : (l text : List ℕ) (at i : ℕ) → length text ≤ i → sets l (at + i) (drop i text) ≡ l
-sets_none l text at i h = rw (drop_of_length-le text h)
-
 -- ---- digits
 pub hex_digits : (k n : ℕ) → last_digits 16 k n ≡ hex_of k n
 unfolding hex_of
