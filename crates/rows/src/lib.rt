@@ -6,15 +6,15 @@ ghost use Rattle.std.specs.Prelude.{◌≡◌, ◌+◌, ◌-◌, ◌<◌, ◌≤
 
 // A row's position in the run.
 #[repr(C)]
-#[derive(Clone, Copy)]
+#[derive(Clone, Copy, Debug, PartialEq, Eq, PartialOrd, Ord)]
 pub struct Position(pub usize);
 
 // A row's offset in a segment.
-#[derive(Clone, Copy)]
+#[derive(Clone, Copy, Debug, PartialEq, Eq, PartialOrd, Ord)]
 pub struct Offset(pub usize);
 
 // A segment of the run: the rows from start to the one before stop.
-#[derive(Clone, Copy)]
+#[derive(Clone, Copy, Debug, PartialEq, Eq)]
 pub struct Segment {
     pub start: Position,
     pub stop: Position,
@@ -37,5 +37,24 @@ impl Offset {
         ensures { result.0 ≡ start.0 + self.0 }
     {
         Position(start.0 + self.0)
+    }
+}
+
+impl Segment {
+    // The whole run of n rows.
+    pub fn run(n: usize) -> Segment
+        ensures { (result.start.0 ≡ 0) × (result.stop.0 ≡ n) }
+    {
+        Segment {
+            start: Position(0),
+            stop: Position(n),
+        }
+    }
+
+    // How many rows it has, 0 if it stops before it starts.
+    pub fn length(self) -> usize
+        ensures { result ≡ self.stop.0 - self.start.0 }
+    {
+        self.stop.0.saturating_sub(self.start.0)
     }
 }

@@ -1,5 +1,5 @@
 -- The choice among the first records in lent memory, record by record. Assumes nothing.
-use mathlib.Core.Path.{◌≡◌, ap, ◌∙◌}
+use mathlib.Core.Path.{◌≡◌}
 use mathlib.Core.Bool.{true, false}
 use mathlib.Core.List.{List, [], ◌∷◌}
 use Prim.Native.Nat.{ℕ, suc, ◌+◌, ◌-◌, ◌*◌, ◌≤◌, ◌<◌}
@@ -10,7 +10,7 @@ use lib.ListN.{drop}
 use lib.Seq.{get_or-drop, drop-drop}
 use Rattle.scope.specs.Grid.{Record, better, best}
 use Rattle.scope.specs.Tree.{inside}
-use Rattle.stored.specs.Flat.{record_at, records_in, lies_inside}
+use Rattle.stored.specs.Flat.{record_at, records_in, inside_at}
 
 -- of the first count records, those from k on
 pub left : List ℕ → List Float → ℕ → ℕ → List Record
@@ -40,18 +40,18 @@ module _ {rows : List ℕ} {gains : List Float} {count start stop : ℕ} {direct
   pub begins : SoFar rows gains count start stop direct 0 direct
   begins = record { same = rw (left_all rows gains count) }
 
-  module _ {k : ℕ} {b r : Record} (more : k < count) (is : r ≡ record_at rows gains k) (so_far : SoFar rows gains count start stop direct k b) where
-    next : best b (inside start stop (r ∷ left rows gains count (k + 1))) ≡ best direct (inside start stop (records_in rows gains count))
-    next = ap (λ (x : Record). best b (inside start stop (x ∷ left rows gains count (k + 1)))) is ∙ rw (← left_next rows gains count k more) so_far.same
+  module _ {k : ℕ} {b : Record} (more : k < count) (so_far : SoFar rows gains count start stop direct k b) where
+    next : best b (inside start stop (record_at rows gains k ∷ left rows gains count (k + 1))) ≡ best direct (inside start stop (records_in rows gains count))
+    next = rw (← left_next rows gains count k more) so_far.same
 
     -- the record at k is compared if it lies inside, and passed if not
-    pub compared : lies_inside start stop r ≡ true → SoFar rows gains count start stop direct (k + 1) (better b r)
+    pub compared : {b' : Record} → inside_at start stop rows k ≡ true → b' ≡ better b (record_at rows gains k) → SoFar rows gains count start stop direct (k + 1) b'
     unfolding best inside
-    compared h = record { same = rw h at next }
+    compared h e = record { same = rw e (rw h at next) }
 
-    pub passed : lies_inside start stop r ≡ false → SoFar rows gains count start stop direct (k + 1) b
+    pub passed : {b' : Record} → inside_at start stop rows k ≡ false → b' ≡ b → SoFar rows gains count start stop direct (k + 1) b'
     unfolding inside
-    passed h = record { same = rw h at next }
+    passed h e = record { same = rw e (rw h at next) }
 
   pub ended : {k : ℕ} {b : Record} → count ≤ k → SoFar rows gains count start stop direct k b → b ≡ best direct (inside start stop (records_in rows gains count))
   unfolding best inside

@@ -6,7 +6,7 @@ use native.Mathlib.Nat.{zero-add, suc-add}
 use native.Mathlib.Omega.{arith}
 use lib.Ieee.{Float}
 use lib.ListN.{length, set, drop, length-append}
-use lib.Seq.{sets, sets-eq, length-sets}
+use lib.Seq.{sets, sets-eq, length-sets, drop-append_seam}
 use Rattle.rows.proofs.Stored.{sets_append}
 use Rattle.scope.specs.Lists.{holding}
 use Rattle.scope.specs.Origin.{origin_of}
@@ -22,11 +22,7 @@ module _ {A : Type 0} where
 
   -- told again
   pub holding_again : (told before : List A) → holding told (holding told before) ≡ holding told before
-  holding_again told before = ap (λ (l : List A). told ++ l) (past told (drop (length told) before))
-    where
-      past : (xs ys : List A) → drop (length xs) (xs ++ ys) ≡ ys
-      past [] ys = refl
-      past (x ∷ xs) ys = past xs ys
+  holding_again told before = ap (λ (l : List A). told ++ l) (drop-append_seam told (drop (length told) before))
 
   -- past the first entry
   sets_suc : (x : A) (l : List A) (p : ℕ) (vs : List A) → sets (x ∷ l) (suc p) vs ≡ x ∷ sets l p vs

@@ -39,11 +39,7 @@ pub record Put (rs : List Record) (at : ℕ) (rows : List ℕ) (gains : List Flo
 abbrev pub Standing : List Record → List ℕ → List Float → ℕ → Type 0
 Standing rs rows gains count = Put rs 0 rows gains rows gains count
 
--- a record lies inside [start, stop): the test of `inside`
-abbrev pub lies_inside : ℕ → ℕ → Record → Bool
-lies_inside start stop r = leb start r.start && leb r.stop stop
-
--- and so of the record at a place, whatever its gain
+-- the record at a place lies inside [start, stop), whatever its gain: the test of `inside`
 abbrev pub inside_at : ℕ → ℕ → List ℕ → ℕ → Bool
 inside_at start stop rows k = leb start (get_or rows (5 * k) 0) && leb (get_or rows (5 * k + 1) 0) stop
 

@@ -1,2 +1,3 @@
 -- Records in lent memory.
 pub mod Flat
+pub mod Records
