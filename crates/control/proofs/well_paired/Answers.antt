@@ -1,21 +1,31 @@
--- `well_paired` meets its contract: the pairs passed are in order, and so it turns on the rest.
-use mathlib.Core.Path.{sym, ◌∙◌}
-use native.Mathlib.Omega.{arith}
-use borrow.Author.Tests.{le-leb, lt-leb}
-use Rattle.control.proofs.Pairs.{paired_next, paired_end}
+-- `well_paired` meets its contract: a pair out of order decides, and at the end an entry that is left.
+use Rattle.std.proofs.Common.{arith, length, sym, ◌∙◌, ap, length-append}
+use borrow.Author.Tests.{lt-leb, le-leb}
+use Rattle.std.specs.Slice.Iter.{chunks_exact_rest}
+use Rattle.control.proofs.Pairs.{paired_turn, paired_end}
 use Rattle.control.proofs.well_paired.Goals as goal
+use Rattle.control.proofs.well_paired.Goals.{After-next}
 
-pub returns-then-forbidden-i : goal.returns-then-forbidden-i
-returns-then-forbidden-i c =
-    let ps = c.args.forbidden.now in
-    let at-loop = c.loop-i in
-    sym (at-loop.invariant.1 ∙ rw (paired_next ps at-loop.i (omega arith), lt-leb _ _ c.if-forbidden-i.true))
+pub returns-then-pair : goal.returns-then-pair
+returns-then-pair c =
+    let left = chunks_exact_rest c.loop-pair.pair-iterator in
+    let turn = paired_turn c.in-Some.pair.now left (chunks_exact_rest c.next.new.self) c.in-Some.ensures.steps.1.0 (c.in-Some.ensures.steps.1.1 ∙ c.loop-pair.invariant.two) in
+    sym (c.loop-pair.invariant.same ∙ turn ∙ rw (lt-leb _ _ c.if-pair.true))
 
-pub loop-i-preserved : goal.loop-i-preserved
-loop-i-preserved c =
-    let ps = c.args.forbidden.now in
-    let at-loop = c.loop-i in
-    (omega arith, at-loop.invariant.1 ∙ rw (paired_next ps at-loop.i (omega arith), le-leb _ _ c.if-forbidden-i.false))
+pub loop-pair-preserved : goal.loop-pair-preserved
+loop-pair-preserved c =
+    let left = chunks_exact_rest c.loop-pair.pair-iterator in
+    let next = chunks_exact_rest c.next.new.self in
+    let steps = c.in-Some.ensures.steps in
+    let two = steps.1.1 ∙ c.loop-pair.invariant.two in
+    let turn = paired_turn c.in-Some.pair.now left next steps.1.0 two in
+    record {
+      two = steps.0 ∙ c.loop-pair.invariant.two;
+      odd = omega (arith, ap length steps.1.0, length-append c.in-Some.pair.now next, two, c.loop-pair.invariant.odd);
+      same = c.loop-pair.invariant.same ∙ turn ∙ rw (le-leb _ _ c.if-pair.false);
+    }
 
 pub returns : goal.returns
-returns c = paired_end c.args.forbidden.now c.loop-i.i (omega arith) (omega arith) ∙ sym c.loop-i.invariant.1
+returns c =
+    let left = chunks_exact_rest c.loop-pair.pair-iterator in
+    rw (← c.loop-pair.invariant.odd) (paired_end left (omega (arith, c.in-None.ensures.steps.1.0, c.loop-pair.invariant.two)) ∙ sym c.loop-pair.invariant.same)

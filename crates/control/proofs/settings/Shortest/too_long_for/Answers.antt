@@ -7,7 +7,7 @@ use borrow.Author.Tests.{ltb-true, ltb-false, le-leb, lt-leb}
 use lib.Dec.{ltb, leb}
 use Rattle.scope.specs.Asked.{one_more}
 use Rattle.control.specs.Settings.{shortest_of}
-use Rattle.control.proofs.Shortest.too_long_for.Goals as goal
+use Rattle.control.proofs.settings.Shortest.too_long_for.Goals as goal
 
 same_test : (rows least more twice : ℕ) → least + more ≡ twice + 1 → ltb rows least ≡ leb (rows + more) twice
 same_test rows least more twice e = go (ltb rows least) refl

@@ -1,7 +1,7 @@
 -- `one_more` meets its contract: one row if the end is closed, else none.
 use native.Mathlib.Omega.{arith}
 use Rattle.scope.specs.Asked.{one_more}
-use Rattle.control.proofs.Shortest.one_more.Goals as goal
+use Rattle.control.proofs.settings.Shortest.one_more.Goals as goal
 
 pub returns-then-self : goal.returns-then-self
 unfolding one_more
