@@ -6,12 +6,13 @@ ghost use Rattle.binary_segmentation.specs.Growth.{behind, behind_cut, Judging, 
 
 use node::Node;
 use optimizer::optimizer_result::GainRecord;
-use rows::Position;
+use rows::{Position, Segment};
 use stored::records;
+use stored::records::Records;
 use verdict::{Asked, Verdict};
 
 // How many nodes, records and cuts there are: the places of the next ones.
-#[derive(Clone, Copy)]
+#[derive(Clone, Copy, Debug, PartialEq, Eq)]
 pub struct Counts {
     pub nodes: usize,
     pub records: usize,
@@ -19,7 +20,7 @@ pub struct Counts {
 }
 
 // A segment once it is judged, and the counts behind its node and its record: the leaf that it is, or the record that cuts it.
-#[derive(Clone, Copy)]
+#[derive(Clone, Copy, Debug, PartialEq)]
 pub enum Judged {
     Uncut(Node, Counts),
     Cut(GainRecord, Counts),
@@ -34,36 +35,35 @@ impl Counts {
         Counts {
             nodes: self.nodes + 1,
             records: self.records + made,
-            cuts: self.cuts,
+            ..self
         }
     }
 }
 
-// Judges [start, stop) after the records before, and appends its direct record.
+// Judges the segment after the records before, and appends its direct record.
 fn judge(
-    sums: &[f64],
-    forbidden: &[usize],
     asked: Asked,
-    start: Position,
-    stop: Position,
+    segment: Segment,
     rows: &mut [usize],
     gains: &mut [f64],
     counts: Counts,
 ) -> Judged
-    requires { (start.0 ≤ stop.0) × Sized asked stop.0 (length sums.now) × (counts.nodes + 1 < 2 ^ 64) × (counts.records + 1 < 2 ^ 64) × (5 * counts.records + 5 ≤ length rows.old) × (counts.records < length gains.old) }
-    ensures { Judging (over sums.now forbidden.now asked) start.0 stop.0 counts rows.old gains.old rows.new gains.new result }
+    requires { (segment.start.0 ≤ segment.stop.0) × Sized asked segment.stop.0 × (counts.nodes + 1 < 2 ^ 64) × (counts.records + 1 < 2 ^ 64) × (5 * counts.records + 5 ≤ length rows.old) × (counts.records < length gains.old) }
+    ensures { Judging (over asked.entry) segment.start.0 segment.stop.0 counts rows.old gains.old rows.new gains.new result }
 {
-    let at = counts.records;
-    match verdict::judge(sums, forbidden, asked, start, stop, rows, gains, at) {
-        Verdict::WithoutChoice => {
-            Judged::Uncut(Node::without_choice(start, stop), counts.behind(0))
-        }
+    let before = Records {
+        rows,
+        gains,
+        count: counts.records,
+    };
+    match verdict::judge(asked, segment, before) {
+        Verdict::WithoutChoice => Judged::Uncut(Node::without_choice(segment), counts.behind(0)),
         Verdict::Uncut(direct, choice) => {
-            records::put_record(rows, gains, at, direct);
-            Judged::Uncut(Node::uncut(start, stop, choice), counts.behind(1))
+            records::put_record(rows, gains, counts.records, direct);
+            Judged::Uncut(Node::uncut(segment, choice), counts.behind(1))
         }
         Verdict::Cut(direct, choice) => {
-            records::put_record(rows, gains, at, direct);
+            records::put_record(rows, gains, counts.records, direct);
             Judged::Cut(choice, counts.behind(1))
         }
     }
@@ -74,58 +74,55 @@ fn put_cut(cuts: &mut [usize], counts: Counts, split: Position) -> Counts
     requires { counts.cuts < length cuts.old }
     ensures { (result ≡ behind_cut counts) × (cuts.new ≡ set cuts.old counts.cuts split.0) }
 {
-    let at = counts.cuts;
-    cuts[at] = split.0;
+    cuts[counts.cuts] = split.0;
     Counts {
-        nodes: counts.nodes,
-        records: counts.records,
-        cuts: at + 1,
+        cuts: counts.cuts + 1,
+        ..counts
     }
 }
 
-// Grows the segment [start, stop): its nodes in preorder, its records, and its cuts from left to right, behind those that are counted. Tells the counts behind them.
+// Grows the segment: its nodes in preorder, its records, and its cuts from left to right, behind those that are counted. Tells the counts behind them.
 fn grow(
-    sums: &[f64],
-    forbidden: &[usize],
     asked: Asked,
-    start: Position,
-    stop: Position,
+    segment: Segment,
     rows: &mut [usize],
     gains: &mut [f64],
     nodes: &mut [Node],
     cuts: &mut [usize],
     counts: Counts,
 ) -> Counts
-    requires { Sized asked stop.0 (length sums.now) × Fits (over sums.now forbidden.now asked) start.0 stop.0 counts (record { rows = rows.old; gains = gains.old; nodes = nodes.old; cuts = cuts.old }) }
-    ensures { Growing (over sums.now forbidden.now asked) start.0 stop.0 counts (record { rows = rows.old; gains = gains.old; nodes = nodes.old; cuts = cuts.old }) (record { rows = rows.new; gains = gains.new; nodes = nodes.new; cuts = cuts.new }) result }
+    requires { Sized asked segment.stop.0 × Fits (over asked) segment.start.0 segment.stop.0 counts (record { rows = rows.old; gains = gains.old; nodes = nodes.old; cuts = cuts.old }) }
+    ensures { Growing (over asked.entry) segment.start.0 segment.stop.0 counts (record { rows = rows.old; gains = gains.old; nodes = nodes.old; cuts = cuts.old }) (record { rows = rows.new; gains = gains.new; nodes = nodes.new; cuts = cuts.new }) result }
 {
-    match judge(sums, forbidden, asked, start, stop, rows, gains, counts) {
+    match judge(asked, segment, rows, gains, counts) {
         Judged::Uncut(leaf, behind) => {
             node::put_node(nodes, counts.nodes, leaf);
             behind
         }
         Judged::Cut(choice, first) => {
             let split = choice.best_split;
-            let left = grow(
-                sums, forbidden, asked, start, split, rows, gains, nodes, cuts, first,
-            );
-            let second = put_cut(cuts, left, split);
+            let left = Segment {
+                stop: split,
+                ..segment
+            };
+            let right = Segment {
+                start: split,
+                ..segment
+            };
+            let second = grow(asked, left, rows, gains, nodes, cuts, first);
+            let behind = put_cut(cuts, second, split);
             node::put_node(
                 nodes,
                 counts.nodes,
-                Node::cut(start, stop, choice, first.nodes, left.nodes),
+                Node::cut(segment, choice, first.nodes, second.nodes),
             );
-            grow(
-                sums, forbidden, asked, split, stop, rows, gains, nodes, cuts, second,
-            )
+            grow(asked, right, rows, gains, nodes, cuts, behind)
         }
     }
 }
 
-// Grows the whole run [0, n) behind the stored segments' records, the first `count` ones. Tells how many nodes, records and cuts there are.
+// Grows the whole run of n rows behind the stored segments' records, the first `count` ones. Tells how many nodes, records and cuts there are.
 pub fn binary_segmentation(
-    sums: &[f64],
-    forbidden: &[usize],
     asked: Asked,
     n: usize,
     rows: &mut [usize],
@@ -134,8 +131,8 @@ pub fn binary_segmentation(
     cuts: &mut [usize],
     count: usize,
 ) -> Counts
-    requires { Sized asked n (length sums.now) × Ready sums.now forbidden.now asked n count (record { rows = rows.old; gains = gains.old; nodes = nodes.old; cuts = cuts.old }) }
-    ensures { Segmented sums.now forbidden.now asked n count (record { rows = rows.old; gains = gains.old; nodes = nodes.old; cuts = cuts.old }) (record { rows = rows.new; gains = gains.new; nodes = nodes.new; cuts = cuts.new }) result }
+    requires { Sized asked n × Ready asked n count (record { rows = rows.old; gains = gains.old; nodes = nodes.old; cuts = cuts.old }) }
+    ensures { Segmented asked.entry n count (record { rows = rows.old; gains = gains.old; nodes = nodes.old; cuts = cuts.old }) (record { rows = rows.new; gains = gains.new; nodes = nodes.new; cuts = cuts.new }) result }
 {
     let before = Counts {
         nodes: 0,
@@ -143,11 +140,8 @@ pub fn binary_segmentation(
         cuts: 0,
     };
     grow(
-        sums,
-        forbidden,
         asked,
-        Position(0),
-        Position(n),
+        Segment::run(n),
         rows,
         gains,
         nodes,

@@ -3,11 +3,14 @@
 
 ghost use Rattle.std.specs.Prelude.{◌≡◌, [], ◌∷◌, ◌+◌, ◌*◌, ◌≤◌, ltb};
 ghost use Rattle.scope.specs.Refusals.{first_of};
+ghost use Rattle.control.specs.Refused.{number_in};
 ghost use Rattle.scope.specs.Feed.{cells_in, no13, no14, open_refusal, feed_refusal, close_tests};
 ghost use Rattle.feed.specs.States.{state_of};
 
+use control::Refusal;
+
 // n rows of d columns, and how many of their cells were taken.
-#[derive(Clone, Copy)]
+#[derive(Clone, Copy, Debug, PartialEq, Eq)]
 pub struct State {
     pub n: usize,
     pub d: usize,
@@ -21,10 +24,7 @@ impl State {
         ensures { result ≡ ltb (cells_in (state_of self)) (self.count + more) }
     {
         let cells = self.n * self.d;
-        if cells < self.count {
-            return true;
-        }
-        cells - self.count < more
+        cells < self.count || cells - self.count < more
     }
 
     // Whether cells are still to come.
@@ -35,61 +35,62 @@ impl State {
         self.count < self.n * self.d
     }
 
-    // 13 and 14: the number that applies where all cells should have been taken, or 0.
-    pub fn count_refusal(self) -> u32
+    // Whether all cells were taken, and no more.
+    pub fn count_refusal(self) -> Result<(), Refusal>
         requires { (self.n ≤ 4096) × (self.d ≤ 64) }
-        ensures { result ≡ first_of (no13 (state_of self) 0 ∷ no14 (state_of self) ∷ []) }
+        ensures { number_in result ≡ first_of (no13 (state_of self) 0 ∷ no14 (state_of self) ∷ []) }
     {
         if self.too_many(0) {
-            return 13;
+            return Err(Refusal::TooManyCells);
         }
         if self.is_open() {
-            return 14;
+            return Err(Refusal::StillOpen);
         }
-        0
+        Ok(())
     }
 }
 
-// The number that applies to an opening in room for so many sums, or 0.
-pub fn open_refusal(n: usize, d: usize, room: usize) -> u32
-    ensures { result ≡ open_refusal (record { n = n; d = d; room = room }) }
+// What is refused of an opening in room for so many sums.
+#[tactic(auto, using(crate::proofs::Sizes::small), unfolding(scope::specs::Feed::open_refusal))]
+pub fn open_refusal(n: usize, d: usize, room: usize) -> Result<(), Refusal>
+    ensures { number_in result ≡ open_refusal (record { n = n; d = d; room = room }) }
 {
     if control::wrong_sizes(n, d, control::MOST_ROWS) {
-        return 1;
+        return Err(Refusal::Sizes);
     }
     if room < control::sums_len(n, d) {
-        return 7;
+        return Err(Refusal::Room);
     }
-    0
+    Ok(())
 }
 
-// The number that applies to a lot, or 0.
-pub fn feed_refusal(lot: &[f64], state: State, room: usize) -> u32
-    ensures { result ≡ feed_refusal (state_of state) lot.now room }
-{
-    let n = state.n;
-    let d = state.d;
-    if control::wrong_sizes(n, d, control::MOST_ROWS) {
-        return 1;
-    }
-    if !control::all_finite(lot) {
-        return 4;
-    }
-    if room < control::sums_len(n, d) {
-        return 7;
-    }
-    if state.too_many(lot.len()) {
-        return 13;
-    }
-    0
-}
-
-// The number that applies to closing, or 0.
-pub fn close_refusal(state: State) -> u32
-    ensures { result ≡ first_of (close_tests (state_of state)) }
+// What is refused of a lot.
+#[tactic(auto, using(crate::proofs::Sizes::small), unfolding(scope::specs::Feed::feed_refusal))]
+pub fn feed_refusal(lot: &[f64], state: State, room: usize) -> Result<(), Refusal>
+    ensures { number_in result ≡ feed_refusal (state_of state) lot.now room }
 {
     if control::wrong_sizes(state.n, state.d, control::MOST_ROWS) {
-        return 1;
+        return Err(Refusal::Sizes);
+    }
+    if !control::all_finite(lot) {
+        return Err(Refusal::NotFinite);
+    }
+    if room < control::sums_len(state.n, state.d) {
+        return Err(Refusal::Room);
+    }
+    if state.too_many(lot.len()) {
+        return Err(Refusal::TooManyCells);
+    }
+    Ok(())
+}
+
+// What is refused of closing.
+#[tactic(auto, using(crate::proofs::Sizes::small))]
+pub fn close_refusal(state: State) -> Result<(), Refusal>
+    ensures { number_in result ≡ first_of (close_tests (state_of state)) }
+{
+    if control::wrong_sizes(state.n, state.d, control::MOST_ROWS) {
+        return Err(Refusal::Sizes);
     }
     state.count_refusal()
 }

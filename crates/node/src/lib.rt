@@ -7,11 +7,12 @@ ghost use Rattle.optimizer.specs.Records.{to_record};
 ghost use Rattle.node.specs.Nodes.{in_numbers, to_node, leaf_of, cut_of};
 
 use optimizer::optimizer_result::GainRecord;
-use rows::Position;
+use rows::{Position, Segment};
 
 // A gain record in plain numbers: its origin by kind, 0 direct, 1 layer, 2 draw, and number.
+// The C interface wants plain numbers in it.
 #[repr(C)]
-#[derive(Clone, Copy)]
+#[derive(Clone, Copy, Debug, PartialEq)]
 pub struct Choice {
     pub start: Position,
     pub stop: Position,
@@ -22,8 +23,9 @@ pub struct Choice {
 }
 
 // A segment, whether it is cut, its choice (all zero where there is none), and the places of its parts (0 and 0 for a leaf).
+// The C interface wants this layout, so no Option and no Segment stand in it.
 #[repr(C)]
-#[derive(Clone, Copy)]
+#[derive(Clone, Copy, Debug, PartialEq)]
 pub struct Node {
     pub start: Position,
     pub stop: Position,
@@ -34,85 +36,64 @@ pub struct Node {
     pub right: usize,
 }
 
-impl Choice {
-    // The numbers of a record.
-    pub fn of(found: GainRecord) -> Choice
-        ensures { result ≡ in_numbers (to_record found) }
-    {
-        let start = found.start;
-        let stop = found.stop;
-        let split = found.best_split;
-        let origin = found.origin;
-        let kind = origin.kind();
-        let number = origin.number();
+impl From<GainRecord> for Choice {
+    ghost from_gives = { λ found choice. choice ≡ in_numbers (to_record found) };
+
+    fn from(found: GainRecord) -> Choice {
         Choice {
-            start,
-            stop,
-            best_split: split,
+            start: found.start,
+            stop: found.stop,
+            best_split: found.best_split,
             max_gain: found.max_gain,
-            kind,
-            number,
+            kind: found.origin.kind(),
+            number: found.origin.number(),
         }
     }
 }
 
 impl Node {
     // A leaf without a record.
-    pub fn without_choice(start: Position, stop: Position) -> Node
-        ensures { result ≡ to_node (leaf_of start.0 stop.0 none) }
+    pub fn without_choice(segment: Segment) -> Node
+        ensures { result ≡ to_node (leaf_of segment.start.0 segment.stop.0 none) }
     {
-        let choice = Choice {
-            start: Position(0),
-            stop: Position(0),
-            best_split: Position(0),
-            max_gain: 0.0,
-            kind: 0,
-            number: 0,
-        };
         Node {
-            start,
-            stop,
+            start: segment.start,
+            stop: segment.stop,
             significant: false,
             has_choice: false,
-            choice,
+            choice: Choice {
+                start: Position(0),
+                stop: Position(0),
+                best_split: Position(0),
+                max_gain: 0.0,
+                kind: 0,
+                number: 0,
+            },
             left: 0,
             right: 0,
         }
     }
 
     // A leaf whose choice does not cut it.
-    pub fn uncut(start: Position, stop: Position, choice: GainRecord) -> Node
-        ensures { result ≡ to_node (leaf_of start.0 stop.0 (some (to_record choice))) }
+    pub fn uncut(segment: Segment, choice: GainRecord) -> Node
+        ensures { result ≡ to_node (leaf_of segment.start.0 segment.stop.0 (some (to_record choice))) }
     {
         Node {
-            start,
-            stop,
-            significant: false,
             has_choice: true,
-            choice: Choice::of(choice),
-            left: 0,
-            right: 0,
+            choice: Choice::from(choice),
+            ..Node::without_choice(segment)
         }
     }
 
     // A segment that is cut by its choice, with the places of both parts.
-    pub fn cut(
-        start: Position,
-        stop: Position,
-        choice: GainRecord,
-        left: usize,
-        right: usize,
-    ) -> Node
-        ensures { result ≡ to_node (cut_of start.0 stop.0 (to_record choice) left right) }
+    pub fn cut(segment: Segment, choice: GainRecord, left: usize, right: usize) -> Node
+        ensures { result ≡ to_node (cut_of segment.start.0 segment.stop.0 (to_record choice) left right) }
     {
         Node {
-            start,
-            stop,
             significant: true,
-            has_choice: true,
-            choice: Choice::of(choice),
             left,
             right,
+            ..Node::uncut(segment, choice)
         }
     }
 }

@@ -1,0 +1,2 @@
+-- Sizes that are not refused.
+pub mod Sizes
