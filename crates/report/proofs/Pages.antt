@@ -1,12 +1,12 @@
 -- Texts put on a page one after another. Assumes nothing.
-use mathlib.Core.Path.{◌≡◌, refl, sym, ◌∙◌, ap}
+use mathlib.Core.Path.{◌≡◌, ◌∙◌}
 use mathlib.Core.List.{List, [], ◌∷◌, ◌++◌, append_assoc}
 use Prim.Native.Nat.{ℕ, ◌+◌, ◌≤◌}
 use native.Mathlib.Omega.{arith}
 use borrow.Rule.Slice.PartMut.{put_mid}
 use lib.ListN.{length}
 use lib.Seq.{sets, sets-eq, drop-drop}
-use Rattle.report.specs.Written.{Written, Put}
+use Rattle.report.specs.Written.{Put}
 use Rattle.report.specs.declared.Page.{Page}
 use Rattle.report.proofs.Texts.{written_then}
 

@@ -135,6 +135,7 @@ impl<'a> Page<'a> {
     }
 
     // An origin: `direct`, `layer K` or `draw K`. It asks just the room that its text takes.
+    #[tactic(auto, unfolding(scope::specs::Origin::origin_text, scope::specs::Text::bytes))]
     pub fn put_origin(&mut self, origin: Origin)
         requires { RoomFor (length (origin_text (to_origin origin))) self.old }
         ensures written { Put self.old (origin_text (to_origin origin)) self.new }
@@ -163,8 +164,7 @@ impl<'a> Page<'a> {
         ensures written { Put self.old (cut_line (to_record cut)) self.new }
         ensures most { self.new.at ≤ self.old.at + line_room }
     {
-        let ends = Segment { start: cut.start, stop: cut.stop };
-        self.put_gain(b"cut", cut.best_split, cut.max_gain, ends, b'\t');
+        self.put_gain(b"cut", cut.best_split, cut.max_gain, cut.segment(), b'\t');
         self.put_last_origin(cut.origin);
     }
 }

@@ -7,4 +7,7 @@ use Rattle.report.proofs.Page.put_cut.Goals as goal
 
 pub returns-clause-written : goal.returns-clause-written
 unfolding bytes line ended_by
-returns-clause-written c = simp append_assoc at (put_then c.put_gain.ensures.written c.put_last_origin.ensures.written)
+returns-clause-written c =
+    let ends = c.segment.ensures in
+    let fields = rw (ends.0, ends.1) at c.put_gain.ensures.written in
+    simp append_assoc at (put_then fields c.put_last_origin.ensures.written)

@@ -1,5 +1,4 @@
 -- `put_gain` meets its contract: the word and the fields, one after another.
-use Rattle.std.proofs.Common.{arith, length}
 use Rattle.std.specs.Float.{binary64}
 use Rattle.std.specs.Float.Ieee.{to_bits}
 use Rattle.scope.specs.Text.{decimal, hex_of}

@@ -1,6 +1,6 @@
 -- `put_text` meets its contract: the text is copied to where it is to stand.
-use Rattle.std.proofs.Common.{◌≡◌, refl, ◌∙◌, ap, arith, List, ℕ, length, ◌+◌, ◌-◌}
-use Rattle.std.proofs.Math.Seq.{sets, length-sets}
+use Rattle.std.proofs.Common.{refl, arith, length, ◌+◌, ◌-◌}
+use Rattle.std.proofs.Math.Seq.{length-sets}
 use Rattle.report.proofs.Pages.{copied}
 use Rattle.report.proofs.Page.put_text.Goals as goal
 
