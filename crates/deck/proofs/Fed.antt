@@ -1,6 +1,7 @@
 -- Feeding one byte more, none, and lot after lot. Assumes nothing.
 use mathlib.Core.Path.{◌≡◌}
-use mathlib.Core.List.{List, ◌++◌, foldl-append}
+use mathlib.Core.List.{List, ◌++◌}
+use Rattle.std.specs.List.{fold}
 use Prim.Native.Nat.{ℕ, ◌+◌, ◌<◌, ◌≤◌}
 use lib.ListN.{length, drop, get_or}
 use Rattle.token.proofs.Parts.{fold_next, fold_none}

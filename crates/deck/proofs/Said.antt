@@ -1,7 +1,8 @@
 -- What is written for a reading is the text that the definitions give whichever input was read so; from the first byte on, in lots of any sizes. Assumes nothing.
 use mathlib.Core.Path.{◌≡◌, refl, sym, ◌∙◌, ap}
 use mathlib.Core.Logic.{⊎_elim}
-use mathlib.Core.List.{List, [], ◌∷◌, foldl, flatten}
+use mathlib.Core.List.{List, [], ◌∷◌, flatten}
+use Rattle.std.specs.List.{fold}
 use Prim.Native.Nat.{ℕ, ◌-◌, ◌^◌, ◌≤◌, ◌<◌}
 use lib.Ieee.{Float}
 use lib.ListN.{length}
@@ -19,7 +20,7 @@ reads_text text input deck (with_rows e) = ap (reading_text text) e
 reads_text text input deck (without_rows e) = ap (reading_text text) e
 
 -- many lots, fed one after another, are one
-lots_fed : (lots : List (List ℕ)) (x : Run) → foldl fed x lots ≡ fed x (flatten lots)
+lots_fed : (lots : List (List ℕ)) (x : Run) → fold fed x lots ≡ fed x (flatten lots)
 unfolding fed flatten
 lots_fed [] x = refl
 lots_fed (l ∷ lots) x = lots_fed lots (fed x l) ∙ sym (fed_lots x l (flatten lots))
@@ -44,7 +45,7 @@ module _ (kept : Given → List Float → List ℕ → List ℕ) (text : Deck �
 
     -- the same in lots
     pub lots_said : (lots : List (List ℕ)) → length (flatten lots) < 2 ^ 64 - 2
-        → let x = foldl fed (run start cells₀ forbidden₀) lots in read_text kept (read_of x.state) x.cells x.forbidden ≡ reading_text text (read_input (flatten lots))
+        → let x = fold fed (run start cells₀ forbidden₀) lots in read_text kept (read_of x.state) x.cells x.forbidden ≡ reading_text text (read_input (flatten lots))
     lots_said lots h = rw (lots_fed lots (run start cells₀ forbidden₀)) (input_said (flatten lots) h)
 
   -- THE LAW: it is right, where the input's text answers it

@@ -2,7 +2,8 @@
 use mathlib.Core.Path.{◌≡◌, refl, sym, ◌∙◌, ap, subst}
 use mathlib.Core.Logic.{inl, inr}
 use mathlib.Core.Bool.{false, cond, not, true≢false}
-use mathlib.Core.List.{List, [], ◌∷◌, foldl}
+use mathlib.Core.List.{List, [], ◌∷◌}
+use Rattle.std.specs.List.{fold}
 use Prim.Native.Nat.{ℕ, ◌+◌, ◌-◌, ◌^◌, ◌≤◌, ◌<◌}
 use native.Mathlib.Omega.{arith}
 use lib.Dec.{ltb, leb, eqb}
@@ -33,22 +34,22 @@ use Rattle.line.proofs.Held.{kept_start, kept_cfg, kept_pair, kept_cells}
 use Rattle.deck.proofs.Fields.{more, end, more_run, end_run, up, judged_run, line_done, line_left}
 
 -- ---- the bytes of a line, counted up to 1,024
-full : (bs : List ℕ) → foldl up 1024 bs ≡ 1024
+full : (bs : List ℕ) → fold up 1024 bs ≡ 1024
 full [] = refl
 full (b ∷ bs) = full bs
 
-short : (bs : List ℕ) (a : ℕ) → a + length bs ≤ 1023 → foldl up a bs ≡ a + length bs
+short : (bs : List ℕ) (a : ℕ) → a + length bs ≤ 1023 → fold up a bs ≡ a + length bs
 short [] a h = omega arith
-short (b ∷ bs) a h = ap (λ (x : ℕ). foldl up x bs) (rw (lt-ltb a 1024 (omega arith))) ∙ short bs (a + 1) (omega arith) ∙ omega arith
+short (b ∷ bs) a h = ap (λ (x : ℕ). fold up x bs) (rw (lt-ltb a 1024 (omega arith))) ∙ short bs (a + 1) (omega arith) ∙ omega arith
 
-long : (bs : List ℕ) (a : ℕ) → a ≤ 1024 → 1023 < a + length bs → foldl up a bs ≡ 1024
+long : (bs : List ℕ) (a : ℕ) → a ≤ 1024 → 1023 < a + length bs → fold up a bs ≡ 1024
 long [] a h k = omega arith
 long (b ∷ bs) a h k =
     either (ltb a 1024)
-    (λ l. ap (λ (x : ℕ). foldl up x bs) (rw l) ∙ long bs (a + 1) (omega (arith, ltb-true a 1024 l)) (omega arith))
+    (λ l. ap (λ (x : ℕ). fold up x bs) (rw l) ∙ long bs (a + 1) (omega (arith, ltb-true a 1024 l)) (omega arith))
     (λ l. let e : a ≡ 1024 = omega (arith, ltb-false a 1024 l) in rw e (full bs))
 
-counted : (l : List ℕ) → leb 1024 (foldl up 0 l) ≡ leb 1024 (length l)
+counted : (l : List ℕ) → leb 1024 (fold up 0 l) ≡ leb 1024 (length l)
 counted l =
     either (leb 1024 (length l))
     (λ t. rw (t, long l 0 (omega arith) (omega (arith, leb-true 1024 (length l) t))))
@@ -57,11 +58,11 @@ counted l =
     let e : 0 + length l ≡ length l = omega arith in
     rw (t, short l 0 (omega arith), e) t)
 
-some_byte : (b : ℕ) (bs : List ℕ) → eqb (foldl up 0 (b ∷ bs)) 0 ≡ false
+some_byte : (b : ℕ) (bs : List ℕ) → eqb (fold up 0 (b ∷ bs)) 0 ≡ false
 some_byte b bs =
     either (leb (length (b ∷ bs)) 1023)
-    (λ t. ne_eqb (foldl up 0 (b ∷ bs)) 0 (λ (e : foldl up 0 (b ∷ bs) ≡ 0). omega (arith, short (b ∷ bs) 0 (omega (arith, leb-true (length (b ∷ bs)) 1023 t)))))
-    (λ t. ne_eqb (foldl up 0 (b ∷ bs)) 0 (λ (e : foldl up 0 (b ∷ bs) ≡ 0). omega (arith, long (b ∷ bs) 0 (omega arith) (omega (arith, leb-false (length (b ∷ bs)) 1023 t)))))
+    (λ t. ne_eqb (fold up 0 (b ∷ bs)) 0 (λ (e : fold up 0 (b ∷ bs) ≡ 0). omega (arith, short (b ∷ bs) 0 (omega (arith, leb-true (length (b ∷ bs)) 1023 t)))))
+    (λ t. ne_eqb (fold up 0 (b ∷ bs)) 0 (λ (e : fold up 0 (b ∷ bs) ≡ 0). omega (arith, long (b ∷ bs) 0 (omega arith) (omega (arith, leb-false (length (b ∷ bs)) 1023 t)))))
 
 -- ---- a step is a byte of a line or its LF
 step_parts : (s : State) (b : ℕ) → step s b ≡ cond (eqb b 10) (end s) (more s b)
@@ -102,7 +103,7 @@ row_same [] k g a q e s = s
 row_same (z ∷ cs) k g a q e s = row_same cs (k + 1) (with_cell g (not (is_reading z))) (stored_cell g.cells (of_int binary64 z) a) q e s
 
 -- past a malformed line
-bad_run : (l : List ℕ) (x : Run) (j : ℕ) → x.state ≡ Bad j → (foldl more_run x l).state ≡ Bad j
+bad_run : (l : List ℕ) (x : Run) (j : ℕ) → x.state ≡ Bad j → (fold more_run x l).state ≡ Bad j
 bad_run [] x j p = p
 bad_run (b ∷ l) x j p = bad_run l (more_run x b) j (ap (λ (t : State). (more t b).state) p)
 
@@ -158,16 +159,16 @@ module _ (cells₀ : List Float) (forbidden₀ : List ℕ) where
     bad_next Feeding e = refl
 
     -- a whole line
-    rep_judged : (ph : Phase) (g : Given) (e : Deck) (a : List Float) (q : List ℕ) (l : List ℕ) → Same g e → Kept cells₀ forbidden₀ g a q e.forbidden e.cells → Blank ph e → Rep (judged_run ph k (foldl up 0 l) (foldl field (head Place.Word g a q) (parts 9 l))) (k + 1) (next k (reading ph e) (read_line l))
+    rep_judged : (ph : Phase) (g : Given) (e : Deck) (a : List Float) (q : List ℕ) (l : List ℕ) → Same g e → Kept cells₀ forbidden₀ g a q e.forbidden e.cells → Blank ph e → Rep (judged_run ph k (fold up 0 l) (fold field (head Place.Word g a q) (parts 9 l))) (k + 1) (next k (reading ph e) (read_line l))
     unfolding read_line
     rep_judged ph g e a q l s c b =
         either (leb 1024 (length l))
         (λ t. rw (counted l, t, lt-leb (length l + 1) 1024 (omega (arith, leb-true 1024 (length l) t))) (gone k refl (bad_next ph e)))
         (λ t. rw (counted l, t, le-leb (length l + 1) 1024 (omega (arith, leb-false 1024 (length l) t))) (rep_line g e a q s c (by_word (parts 9 l)) ph _ b (line_ends g a q (parts 9 l))))
 
-    rep_next : (x : Run) (r : Reading) (l : List ℕ) → Rep x k r → Rep (end_run (foldl more_run x l)) (k + 1) (next k r (read_line l))
+    rep_next : (x : Run) (r : Reading) (l : List ℕ) → Rep x k r → Rep (end_run (fold more_run x l)) (k + 1) (next k r (read_line l))
     rep_next x r l (good ph g e p s c b z) =
-        let w = ap (λ (t : State). end_run (foldl more_run (run t x.cells x.forbidden) l)) p ∙ line_done ph k (head Place.Word g x.cells x.forbidden) l in
+        let w = ap (λ (t : State). end_run (fold more_run (run t x.cells x.forbidden) l)) p ∙ line_done ph k (head Place.Word g x.cells x.forbidden) l in
         rw (z, w) (rep_judged ph g e x.cells x.forbidden l s c b)
     rep_next x r l (gone j p z) = rw z (gone j (ap (λ (t : State). (end t).state) (bad_run l x j p)) refl)
 
@@ -182,10 +183,10 @@ module _ (cells₀ : List Float) (forbidden₀ : List ℕ) where
     bad_end Feeding e b bs = refl
 
     -- what follows the last LF
-    rep_last : (l : List ℕ) (x : Run) (r : Reading) → Rep x k r → SaysOf (foldl more_run x l) (ended k r l)
+    rep_last : (l : List ℕ) (x : Run) (r : Reading) → Rep x k r → SaysOf (fold more_run x l) (ended k r l)
     rep_last [] x r (good ph g e p s c b z) = rw (p, z) (told ph g e x.cells x.forbidden s c)
     rep_last (y ∷ ys) x r (good ph g e p s c b z) =
-        let w = ap (λ (t : State). read_of (foldl more_run (run t x.cells x.forbidden) (y ∷ ys)).state) p ∙ line_left ph k (head Place.Word g x.cells x.forbidden) (y ∷ ys) (some_byte y ys) in
+        let w = ap (λ (t : State). read_of (fold more_run (run t x.cells x.forbidden) (y ∷ ys)).state) p ∙ line_left ph k (head Place.Word g x.cells x.forbidden) (y ∷ ys) (some_byte y ys) in
         rw (w, z) (bad_end ph e y ys)
     rep_last l x r (gone j p z) = rw (bad_run l x j p, z) refl
 
@@ -195,7 +196,7 @@ module _ (cells₀ : List Float) (forbidden₀ : List ℕ) where
     rep_lines [] x k r p h v = absurd (omega arith)
     rep_lines (l ∷ []) x k r p h v = rep_last room room₂ k (omega arith) l x r v
     rep_lines (l ∷ m ∷ ps) x k r p h v =
-        rep_lines (m ∷ ps) (end_run (foldl more_run x l)) (k + 1) (next k r (read_line l)) (omega arith) (omega arith) (rep_next room room₂ k (omega arith) x r l v)
+        rep_lines (m ∷ ps) (end_run (fold more_run x l)) (k + 1) (next k r (read_line l)) (omega arith) (omega arith) (rep_next room room₂ k (omega arith) x r l v)
 
     rep_start : Rep (run start cells₀ forbidden₀) 1 begun
     rep_start = good Begun nothing (deck_of 0 0 0 0) refl (refl, refl, refl, refl) (kept_start cells₀ forbidden₀) (refl, refl) refl

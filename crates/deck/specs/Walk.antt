@@ -1,6 +1,7 @@
 -- The input byte by byte: what the code keeps of it.
 use Rattle.std.specs.Prelude.{cond, ℕ, leb, eqb, Float}
-use mathlib.Core.List.{List, foldl}
+use mathlib.Core.List.{List}
+use Rattle.std.specs.List.{fold}
 use Rattle.token.specs.declared.Token.{Token}
 use Rattle.token.specs.Walk.{fresh, token_more}
 use Rattle.line.specs.declared.Place.{Place}
@@ -106,7 +107,7 @@ step_run x b = onto x (step x.state b)
 
 -- a lot of bytes
 unfoldable pub fed : Run → List ℕ → Run
-fed x bs = foldl step_run x bs
+fed x bs = fold step_run x bs
 
 -- ---- the input's end
 abbrev pub at_phase : Phase → ℕ → Given → Read

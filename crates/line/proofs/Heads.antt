@@ -1,6 +1,6 @@
 -- A line between two fields. Assumes nothing.
 use Rattle.std.proofs.Common.{◌≡◌, ℕ, List, [], ◌∷◌, refl, ap, ◌∙◌}
-use mathlib.Core.List.{foldl}
+use Rattle.std.specs.List.{fold}
 use lib.Ieee.{Float}
 use Rattle.scope.specs.Text.{number, cell, threshold}
 use Rattle.token.specs.Walk.{word_more, cell_more, hex_more, fresh, token_more}
@@ -14,15 +14,15 @@ use Rattle.line.specs.declared.Given.{Given}
 use Rattle.line.specs.declared.Ended.{Ended}
 
 -- ---- a field's bytes
-token_walk : (f : List ℕ) (t : Token) → foldl token_more t f ≡ record { word = foldl word_more t.word f; cell = foldl cell_more t.cell f; hex = foldl hex_more t.hex f }
+token_walk : (f : List ℕ) (t : Token) → fold token_more t f ≡ record { word = fold word_more t.word f; cell = fold cell_more t.cell f; hex = fold hex_more t.hex f }
 token_walk [] t = refl
 token_walk (b ∷ f) t = token_walk f (token_more t b)
 
 -- what a field is
 abbrev pub field_reads : List ℕ → Reads
-field_reads f = record { word = foldl word_more Empty f; number = number f; cell = cell f; bits = threshold f }
+field_reads f = record { word = fold word_more Empty f; number = number f; cell = cell f; bits = threshold f }
 
-pub token_reads : (f : List ℕ) → reads (foldl token_more fresh f) ≡ field_reads f
+pub token_reads : (f : List ℕ) → reads (fold token_more fresh f) ≡ field_reads f
 token_reads f = ap reads (token_walk f fresh) ∙ rw (walked_plain f, walked_cell f, walked_threshold f)
 
 -- ---- between two fields of a line: what comes next, what is given, what is held

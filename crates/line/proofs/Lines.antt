@@ -1,6 +1,6 @@
 -- What a line's fields come to is what the definitions read in the line. Assumes nothing.
 use Rattle.std.proofs.Common.{◌≡◌, ℕ, suc, ◌+◌, ◌≤◌, Bool, true, false, not, ltb, leb, List, [], ◌∷◌, length, ℤ, sym, refl, ap, ◌∙◌, subst, arith, ltb-false, ltb-true, le-ltb, lt-ltb, le-leb, leb-false, leb-true}
-use mathlib.Core.List.{foldl}
+use Rattle.std.specs.List.{fold}
 use mathlib.Core.Option.{Option, none, some}
 use lib.Ieee.{Float, of_int, binary64}
 use borrow.Author.Tests.{lt-leb}
@@ -48,17 +48,17 @@ Ends g a q h (row_line cs) = h ≡ row_on cs 0 g a q
 Ends g a q h malformed = Lost h
 
 -- malformed once, malformed to the end
-gone : (fs : List (List ℕ)) (g : Given) (a : List Float) (q : List ℕ) → Lost (foldl field (head Malformed g a q) fs)
+gone : (fs : List (List ℕ)) (g : Given) (a : List Float) (q : List ℕ) → Lost (fold field (head Malformed g a q) fs)
 gone [] g a q = refl
 gone (f ∷ fs) g a q = gone fs g a q
 
 -- a number, or a threshold, and then fields that lose the line whatever it is
 module _ (g : Given) (a : List Float) (q : List ℕ) (fs : List (List ℕ)) where
-  on_number : (x : Number) → ((v : ℕ) → Lost (foldl field (head_on (head (Place.Number x) g a q) (number_at x g v)) fs)) → (o : Option ℕ) → Lost (foldl field (head_on (head (Place.Number x) g a q) (number_end x g o)) fs)
+  on_number : (x : Number) → ((v : ℕ) → Lost (fold field (head_on (head (Place.Number x) g a q) (number_at x g v)) fs)) → (o : Option ℕ) → Lost (fold field (head_on (head (Place.Number x) g a q) (number_end x g o)) fs)
   on_number x h none = gone fs g a q
   on_number x h (some v) = h v
 
-  on_bits : ((t : ℕ) → Lost (foldl field (head Place.Cfg (with_cfg g g.n g.d g.m t) a q) fs)) → (o : Option ℕ) → Lost (foldl field (head_on (head Threshold g a q) (bits_end g o)) fs)
+  on_bits : ((t : ℕ) → Lost (fold field (head Place.Cfg (with_cfg g g.n g.d g.m t) a q) fs)) → (o : Option ℕ) → Lost (fold field (head_on (head Threshold g a q) (bits_end g o)) fs)
   on_bits h none = gone fs g a q
   on_bits h (some t) = h t
 
@@ -77,19 +77,19 @@ module _ (g : Given) (a : List Float) (q : List ℕ) where
   cfg_4 n d m none = refl
   cfg_4 n d m (some t) = refl
 
-  cfg_3 : (n d : ℕ) (o : Option ℕ) (t : List ℕ) → Ends g a q (foldl field (head_on (head (Place.Number M) (with_d n d) a q) (number_end M (with_d n d) o)) (t ∷ [])) (cfg_of (some n) (some d) o (threshold t))
+  cfg_3 : (n d : ℕ) (o : Option ℕ) (t : List ℕ) → Ends g a q (fold field (head_on (head (Place.Number M) (with_d n d) a q) (number_end M (with_d n d) o)) (t ∷ [])) (cfg_of (some n) (some d) o (threshold t))
   cfg_3 n d none t = refl
   cfg_3 n d (some m) t = cfg_4 n d m (threshold t)
 
-  cfg_2 : (n : ℕ) (o : Option ℕ) (m t : List ℕ) → Ends g a q (foldl field (head_on (head (Place.Number D) (with_n n) a q) (number_end D (with_n n) o)) (m ∷ t ∷ [])) (cfg_of (some n) o (number m) (threshold t))
+  cfg_2 : (n : ℕ) (o : Option ℕ) (m t : List ℕ) → Ends g a q (fold field (head_on (head (Place.Number D) (with_n n) a q) (number_end D (with_n n) o)) (m ∷ t ∷ [])) (cfg_of (some n) o (number m) (threshold t))
   cfg_2 n none m t = refl
   cfg_2 n (some d) m t = cfg_3 n d (number m) t
 
-  cfg_1 : (o : Option ℕ) (d m t : List ℕ) → Ends g a q (foldl field (head_on (head (Place.Number Number.N) g a q) (number_end Number.N g o)) (d ∷ m ∷ t ∷ [])) (cfg_of o (number d) (number m) (threshold t))
+  cfg_1 : (o : Option ℕ) (d m t : List ℕ) → Ends g a q (fold field (head_on (head (Place.Number Number.N) g a q) (number_end Number.N g o)) (d ∷ m ∷ t ∷ [])) (cfg_of o (number d) (number m) (threshold t))
   cfg_1 none d m t = refl
   cfg_1 (some n) d m t = cfg_2 n (number d) m t
 
-  cfg_law : (fs : List (List ℕ)) → Ends g a q (foldl field (head (Place.Number Number.N) g a q) fs) (cfg_fields fs)
+  cfg_law : (fs : List (List ℕ)) → Ends g a q (fold field (head (Place.Number Number.N) g a q) fs) (cfg_fields fs)
   cfg_law [] = refl
   cfg_law (n ∷ []) = on_number g a q [] Number.N (λ v. refl) (number n)
   cfg_law (n ∷ d ∷ []) = on_number g a q (d ∷ []) Number.N (λ v. on_number (with_n v) a q [] D (λ w. refl) (number d)) (number n)
@@ -104,11 +104,11 @@ module _ (g : Given) (a : List Float) (q : List ℕ) where
   no_2 x none = refl
   no_2 x (some y) = refl
 
-  no_1 : (o : Option ℕ) (y : List ℕ) → Ends g a q (foldl field (head_on (head (Place.Number A) g a q) (number_end A g o)) (y ∷ [])) (no_of o (number y))
+  no_1 : (o : Option ℕ) (y : List ℕ) → Ends g a q (fold field (head_on (head (Place.Number A) g a q) (number_end A g o)) (y ∷ [])) (no_of o (number y))
   no_1 none y = refl
   no_1 (some x) y = no_2 x (number y)
 
-  no_law : (fs : List (List ℕ)) → Ends g a q (foldl field (head (Place.Number A) g a q) fs) (no_fields fs)
+  no_law : (fs : List (List ℕ)) → Ends g a q (fold field (head (Place.Number A) g a q) fs) (no_fields fs)
   no_law [] = refl
   no_law (x ∷ []) = on_number g a q [] A (λ v. refl) (number x)
   no_law (x ∷ y ∷ []) = no_1 (number x) y
@@ -132,13 +132,13 @@ module _ (h : Head) (k : ℕ) (g : Given) (a : List Float) (q : List ℕ) where
   rows_more z (some cs) true r = r
 
 row_next : (f : List ℕ) (fs : List (List ℕ)) (k : ℕ) (g : Given) (a : List Float) (q : List ℕ) (o : Option ℤ)
-    → ((g' : Given) (a' : List Float) → Rows (foldl field (head (Cells (k + 1)) g' a' q) fs) (k + 1) g' a' q (cells_of fs) (leb ((k + 1) + length fs) 64))
-    → Rows (foldl field (head_on (head (Cells k) g a q) (cell_end k g o)) fs) k g a q (cons_some o (cells_of fs)) (leb ((k + 1) + length fs) 64)
+    → ((g' : Given) (a' : List Float) → Rows (fold field (head (Cells (k + 1)) g' a' q) fs) (k + 1) g' a' q (cells_of fs) (leb ((k + 1) + length fs) 64))
+    → Rows (fold field (head_on (head (Cells k) g a q) (cell_end k g o)) fs) k g a q (cons_some o (cells_of fs)) (leb ((k + 1) + length fs) 64)
 row_next f fs k g a q none ih = gone fs g a q
 row_next f fs k g a q (some z) ih =
     rows_more _ k g a q z (cells_of fs) (leb ((k + 1) + length fs) 64) (ih (with_cell g (not (is_reading z))) (stored_cell g.cells (of_int binary64 z) a))
 
-rows : (fs : List (List ℕ)) (k : ℕ) (g : Given) (a : List Float) (q : List ℕ) → k ≤ 64 → Rows (foldl field (head (Cells k) g a q) fs) k g a q (cells_of fs) (leb (k + length fs) 64)
+rows : (fs : List (List ℕ)) (k : ℕ) (g : Given) (a : List Float) (q : List ℕ) → k ≤ 64 → Rows (fold field (head (Cells k) g a q) fs) k g a q (cells_of fs) (leb (k + length fs) 64)
 unfolding cells_of
 rows [] k g a q h = rw (le-leb (k + 0) 64 (omega arith)) refl
 rows (f ∷ fs) k g a q h =
@@ -171,7 +171,7 @@ rows_end h g a q n (some cs) len r =
     (λ t. rw (e, lt-ltb 64 (suc n) (leb-false (suc n) 64 t)) (rw t at r))
 
 module _ (g : Given) (a : List Float) (q : List ℕ) where
-  row_law : (fs : List (List ℕ)) → Ends g a q (foldl field (head Place.Row g a q) fs) (row_of (cells_of fs))
+  row_law : (fs : List (List ℕ)) → Ends g a q (fold field (head Place.Row g a q) fs) (row_of (cells_of fs))
   unfolding cells_of outside
   row_law [] = refl
   row_law (f ∷ fs) =
@@ -179,7 +179,7 @@ module _ (g : Given) (a : List Float) (q : List ℕ) where
       rows_end _ g a q (length fs) (cells_of (f ∷ fs)) (cells_length (f ∷ fs)) (rw e at (rows (f ∷ fs) 0 g a q (omega arith)))
 
   -- ---- by the word
-  by_word_lem : (fs : List (List ℕ)) (w : Word) → Ends g a q (foldl field (head (place_of w) g a q) fs) (pick w (cfg_fields fs) (no_fields fs) (row_of (cells_of fs)) malformed)
+  by_word_lem : (fs : List (List ℕ)) (w : Word) → Ends g a q (fold field (head (place_of w) g a q) fs) (pick w (cfg_fields fs) (no_fields fs) (row_of (cells_of fs)) malformed)
   by_word_lem fs Empty = gone fs g a q
   by_word_lem fs C = gone fs g a q
   by_word_lem fs Cf = gone fs g a q
@@ -191,10 +191,10 @@ module _ (g : Given) (a : List Float) (q : List ℕ) where
   by_word_lem fs Row = row_law fs
   by_word_lem fs Other = gone fs g a q
 
-  pub line_ends : (fs : List (List ℕ)) → Ends g a q (foldl field (head Place.Word g a q) fs) (by_word fs)
+  pub line_ends : (fs : List (List ℕ)) → Ends g a q (fold field (head Place.Word g a q) fs) (by_word fs)
   line_ends [] = refl
   line_ends (w ∷ fs) =
-      subst (Ends g a q (foldl field (head Place.Word g a q) (w ∷ fs))) (walked_word (cfg_fields fs) (no_fields fs) (row_of (cells_of fs)) malformed w) (by_word_lem fs (foldl word_more Empty w))
+      subst (Ends g a q (fold field (head Place.Word g a q) (w ∷ fs))) (walked_word (cfg_fields fs) (no_fields fs) (row_of (cells_of fs)) malformed w) (by_word_lem fs (fold word_more Empty w))
 
 -- a row ends after its cells
 pub row_place : (cs : List ℤ) (k : ℕ) (g : Given) (a : List Float) (q : List ℕ) → (row_on cs k g a q).place ≡ Cells (k + length cs)

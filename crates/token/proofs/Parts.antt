@@ -1,7 +1,8 @@
 -- Walks over bytes: one byte more; and a walk that ends a part at each separator is a walk over the parts. Assumes nothing.
 use mathlib.Core.Path.{◌≡◌, refl, ◌∙◌, ap}
 use mathlib.Core.Bool.{Bool, true, false, cond}
-use mathlib.Core.List.{List, [], ◌∷◌, foldl}
+use mathlib.Core.List.{List, [], ◌∷◌}
+use Rattle.std.specs.List.{fold}
 use Prim.Native.Nat.{ℕ, suc, ◌+◌, ◌≤◌, ◌<◌}
 use native.Mathlib.Numerals.{add-one}
 use native.Mathlib.Omega.{arith}
@@ -12,10 +13,10 @@ use Rattle.scope.specs.Text.{parts, parts_on}
 
 -- what is walked from the byte at i on: that byte, and what is walked behind it; past the last byte nothing
 module _ {S : Type 0} (f : S → ℕ → S) (s : S) (bs : List ℕ) (i : ℕ) where
-  pub fold_next : i < length bs → foldl f s (drop i bs) ≡ foldl f (f s (get_or bs i 0)) (drop (i + 1) bs)
+  pub fold_next : i < length bs → fold f s (drop i bs) ≡ fold f (f s (get_or bs i 0)) (drop (i + 1) bs)
   fold_next h = rw (add-one, drop-cons bs i 0 h)
 
-  pub fold_none : length bs ≤ i → foldl f s (drop i bs) ≡ s
+  pub fold_none : length bs ≤ i → fold f s (drop i bs) ≡ s
   fold_none h = rw (drop_of_length-le bs h)
 
 -- there is always a first part
@@ -52,14 +53,14 @@ module _ {S : Type 0} (z : ℕ) (more : S → ℕ → S) (end : S → S) where
 
   -- one part
   abbrev pub part : S → List ℕ → S
-  part s p = end (foldl more s p)
+  part s p = end (fold more s p)
 
-  onto : (t : Bool) (s : S) (b : ℕ) (p : List ℕ) (ps : List (List ℕ)) → foldl part (cond t (end s) (more s b)) (p ∷ ps) ≡ foldl part s (parts_on t b (p ∷ ps))
+  onto : (t : Bool) (s : S) (b : ℕ) (p : List ℕ) (ps : List (List ℕ)) → fold part (cond t (end s) (more s b)) (p ∷ ps) ≡ fold part s (parts_on t b (p ∷ ps))
   onto true s b p ps = refl
   onto false s b p ps = refl
 
   -- the end of the last part is the walk's own end
-  pub walk_parts : (bs : List ℕ) (s : S) → end (foldl walk s bs) ≡ foldl part s (parts z bs)
+  pub walk_parts : (bs : List ℕ) (s : S) → end (fold walk s bs) ≡ fold part s (parts z bs)
   unfolding parts
   walk_parts [] s = refl
   walk_parts (b ∷ bs) s = let w = some_parts z bs in walk_parts bs (walk s b) ∙ rw w.is (onto (eqb b z) s b w.first w.rest)
@@ -67,7 +68,7 @@ module _ {S : Type 0} (z : ℕ) (more : S → ℕ → S) (end : S → S) where
   -- the same where the last part isn't ended
   abbrev pub leftover : S → List (List ℕ) → S
   leftover s [] = s
-  leftover s (p ∷ []) = foldl more s p
+  leftover s (p ∷ []) = fold more s p
   leftover s (p ∷ q ∷ ps) = leftover (part s p) (q ∷ ps)
 
   left : (t : Bool) (s : S) (b : ℕ) (p : List ℕ) (ps : List (List ℕ)) → leftover (cond t (end s) (more s b)) (p ∷ ps) ≡ leftover s (parts_on t b (p ∷ ps))
@@ -75,12 +76,12 @@ module _ {S : Type 0} (z : ℕ) (more : S → ℕ → S) (end : S → S) where
   left false s b p [] = refl
   left false s b p (q ∷ ps) = refl
 
-  pub walk_leftover : (bs : List ℕ) (s : S) → foldl walk s bs ≡ leftover s (parts z bs)
+  pub walk_leftover : (bs : List ℕ) (s : S) → fold walk s bs ≡ leftover s (parts z bs)
   unfolding parts
   walk_leftover [] s = refl
   walk_leftover (b ∷ bs) s = let w = some_parts z bs in walk_leftover bs (walk s b) ∙ rw w.is (left (eqb b z) s b w.first w.rest)
 
 -- two walks that agree at each byte agree
-pub fold_same : {S B : Type 0} (f g : S → B → S) → ((s : S) (b : B) → f s b ≡ g s b) → (bs : List B) (s : S) → foldl f s bs ≡ foldl g s bs
+pub fold_same : {S B : Type 0} (f g : S → B → S) → ((s : S) (b : B) → f s b ≡ g s b) → (bs : List B) (s : S) → fold f s bs ≡ fold g s bs
 fold_same f g e [] s = refl
-fold_same f g e (b ∷ bs) s = ap (λ t. foldl f t bs) (e s b) ∙ fold_same f g e bs (g s b)
+fold_same f g e (b ∷ bs) s = ap (λ t. fold f t bs) (e s b) ∙ fold_same f g e bs (g s b)

@@ -1,7 +1,8 @@
 -- What the walk makes of a word's bytes. Assumes nothing.
 use mathlib.Core.Path.{◌≡◌, refl, ◌∙◌, ap}
 use mathlib.Core.Bool.{cond}
-use mathlib.Core.List.{List, [], ◌∷◌, foldl}
+use mathlib.Core.List.{List, [], ◌∷◌}
+use Rattle.std.specs.List.{fold}
 use Prim.Native.Nat.{ℕ}
 use lib.Dec.{eqb}
 use borrow.Author.Tests.{eqb-true}
@@ -26,7 +27,7 @@ pick Other x y z u = u
 
 module _ {A : Type 0} (x y z u : A) where
   abbrev picked : Word → List ℕ → A
-  picked w f = pick (foldl word_more w f) x y z u
+  picked w f = pick (fold word_more w f) x y z u
 
   dead : (f : List ℕ) → picked Other f ≡ u
   dead [] = refl

@@ -3,11 +3,11 @@
 #![tactic(auto)]
 
 ghost use Rattle.std.specs.Prelude.{◌≡◌, ◌<◌};
-ghost use Rattle.token.specs.Walk.{first_letter, awaited as Walk·awaited, word_more, value_more, digit_of, digit_more, first_of_cell, cell_more, hex_digit, place_more, hex_more, fresh as Walk·fresh, token_more, as_number};
+ghost use Rattle.token.specs.Walk.{option_of, word_more, value_more, digit_more, cell_more, hex_digit, place_more, hex_more, fresh as Walk·fresh, token_more, as_number, as_plain, as_bits};
 ghost use Rattle.scope.specs.Text.{number};
 
 // What the bytes so far are: nothing, a word of the program, the start of one, or neither.
-#[derive(Clone, Copy)]
+#[derive(Clone, Copy, Debug, PartialEq, Eq)]
 pub enum Word {
     Empty,
     C,
@@ -21,211 +21,192 @@ pub enum Word {
     Other,
 }
 
-fn first_letter(b: u8) -> Word
-    ensures { result ≡ first_letter b }
-{
-    if b == b'c' {
-        return Word::C;
-    }
-    if b == b'n' {
-        return Word::N;
-    }
-    if b == b'r' {
-        return Word::R;
-    }
-    Word::Other
-}
-
-fn awaited(b: u8, letter: u8, next: Word) -> Word
-    ensures { result ≡ Walk·awaited b letter next }
-{
-    if b == letter {
-        return next;
-    }
-    Word::Other
-}
-
-fn word_more(w: Word, b: u8) -> Word
-    ensures { result ≡ word_more w b }
-{
-    match w {
-        Word::Empty => first_letter(b),
-        Word::C => awaited(b, b'f', Word::Cf),
-        Word::Cf => awaited(b, b'g', Word::Cfg),
-        Word::Cfg => Word::Other,
-        Word::N => awaited(b, b'o', Word::No),
-        Word::No => Word::Other,
-        Word::R => awaited(b, b'o', Word::Ro),
-        Word::Ro => awaited(b, b'w', Word::Row),
-        Word::Row => Word::Other,
-        Word::Other => Word::Other,
+impl Word {
+    // One byte more.
+    fn more(self, b: u8) -> Word
+        ensures { result ≡ word_more self b }
+    {
+        match (self, b) {
+            (Word::Empty, b'c') => Word::C,
+            (Word::C, b'f') => Word::Cf,
+            (Word::Cf, b'g') => Word::Cfg,
+            (Word::Empty, b'n') => Word::N,
+            (Word::N, b'o') => Word::No,
+            (Word::Empty, b'r') => Word::R,
+            (Word::R, b'o') => Word::Ro,
+            (Word::Ro, b'w') => Word::Row,
+            _ => Word::Other,
+        }
     }
 }
 
 // A number's digits so far: none, those of a value, or no number.
-#[derive(Clone, Copy)]
+#[derive(Clone, Copy, Debug, PartialEq, Eq)]
 pub enum Digits {
     Empty,
     Value(usize),
     Wrong,
 }
 
-// The digit d after the value v: none may follow a leading zero, or ten digits.
-fn value_more(v: usize, d: usize) -> Digits
-    requires { d < 10 }
-    ensures { result ≡ value_more v d }
-{
-    if v == 0 {
-        return Digits::Wrong;
+impl Digits {
+    // The number that they are, where they are one.
+    pub fn value(self) -> Option<usize>
+        ensures { option_of result ≡ as_number self }
+    {
+        match self {
+            Digits::Value(v) => Some(v),
+            Digits::Empty | Digits::Wrong => None,
+        }
     }
-    if 1_000_000_000 <= v {
-        return Digits::Wrong;
+
+    // One byte more.
+    fn more(self, b: u8) -> Digits
+        ensures { result ≡ digit_more self b }
+    {
+        if !b.is_ascii_digit() {
+            return Digits::Wrong;
+        }
+        let digit = (b - b'0') as usize;
+        match self {
+            Digits::Empty => Digits::Value(digit),
+            Digits::Value(v) => value_more(v, digit),
+            Digits::Wrong => Digits::Wrong,
+        }
     }
-    Digits::Value(v * 10 + d)
 }
 
-fn digit_of(g: Digits, d: usize) -> Digits
-    requires { d < 10 }
-    ensures { result ≡ digit_of g d }
+// A digit after a value: none may follow a leading zero, or ten digits.
+fn value_more(v: usize, digit: usize) -> Digits
+    requires { digit < 10 }
+    ensures { result ≡ value_more v digit }
 {
-    match g {
-        Digits::Empty => Digits::Value(d),
-        Digits::Value(v) => value_more(v, d),
-        Digits::Wrong => Digits::Wrong,
+    if v == 0 || 1_000_000_000 <= v {
+        Digits::Wrong
+    } else {
+        Digits::Value(v * 10 + digit)
     }
 }
 
-fn digit_more(g: Digits, b: u8) -> Digits
-    ensures { result ≡ digit_more g b }
-{
-    if b < b'0' {
-        return Digits::Wrong;
-    }
-    if b'9' < b {
-        return Digits::Wrong;
-    }
-    digit_of(g, (b - b'0') as usize)
-}
-
-// The digits of a whole field.
-pub fn number_of(field: &[u8]) -> Digits
-    ensures { as_number result ≡ number field.now }
+// The number that a whole field is, where it is one.
+pub fn number_of(field: &[u8]) -> Option<usize>
+    ensures { option_of result ≡ number field.now }
 {
     let mut digits = Digits::Empty;
-    let mut i = 0;
-    while i < field.len() {
-        let next = digit_more(digits, field[i]);
-        digits = next;
-        i += 1;
+    for &b in field {
+        digits = digits.more(b);
     }
-    digits
+    digits.value()
 }
 
 // A cell so far: nothing, a number, or what follows a minus.
-#[derive(Clone, Copy)]
+#[derive(Clone, Copy, Debug, PartialEq, Eq)]
 pub enum Cell {
     Empty,
     Plain(Digits),
     Minus(Digits),
 }
 
-fn first_of_cell(b: u8) -> Cell
-    ensures { result ≡ first_of_cell b }
-{
-    if b == b'-' {
-        return Cell::Minus(Digits::Empty);
+impl Cell {
+    // The digits of a field that has no minus.
+    pub fn plain(self) -> Digits
+        ensures { result ≡ as_plain self }
+    {
+        match self {
+            Cell::Empty => Digits::Empty,
+            Cell::Plain(digits) => digits,
+            Cell::Minus(_) => Digits::Wrong,
+        }
     }
-    Cell::Plain(digit_more(Digits::Empty, b))
-}
 
-fn cell_more(c: Cell, b: u8) -> Cell
-    ensures { result ≡ cell_more c b }
-{
-    match c {
-        Cell::Empty => first_of_cell(b),
-        Cell::Plain(g) => Cell::Plain(digit_more(g, b)),
-        Cell::Minus(g) => Cell::Minus(digit_more(g, b)),
+    // One byte more.
+    fn more(self, b: u8) -> Cell
+        ensures { result ≡ cell_more self b }
+    {
+        match self {
+            Cell::Empty if b == b'-' => Cell::Minus(Digits::Empty),
+            Cell::Empty => Cell::Plain(Digits::Empty.more(b)),
+            Cell::Plain(digits) => Cell::Plain(digits.more(b)),
+            Cell::Minus(digits) => Cell::Minus(digits.more(b)),
+        }
     }
 }
 
-// A threshold so far: the number of its digits and the bits that they give, or no threshold.
-#[derive(Clone, Copy)]
-pub enum Hex {
-    Places(u64, u64),
-    Wrong,
+// A threshold's digits so far: how many, and the bits that they give.
+#[derive(Clone, Copy, Debug, PartialEq, Eq)]
+pub struct Places {
+    pub count: u64,
+    pub bits: u64,
 }
 
-// A hex digit's value; 16 where the byte is none.
-fn hex_digit(b: u8) -> u64
+// A hex digit's value.
+fn hex_digit(b: u8) -> Option<u64>
     ensures { result ≡ hex_digit b }
 {
-    if b < b'0' {
-        return 16;
+    match b {
+        b'0'..=b'9' => Some((b - b'0') as u64),
+        b'a'..=b'f' => Some((b - b'a') as u64 + 10),
+        _ => None,
     }
-    if b <= b'9' {
-        return (b - b'0') as u64;
-    }
-    if b < b'a' {
-        return 16;
-    }
-    if b <= b'f' {
-        return (b - b'a') as u64 + 10;
-    }
-    16
 }
 
-// The digit d after k others: sixteen are whole, and the bits of fewer leave room for one more.
-fn place_more(k: u64, bits: u64, d: u64) -> Hex
-    ensures { result ≡ place_more k bits d }
+// A digit after others: sixteen are whole, and the bits of fewer leave room for one more.
+fn place_more(places: Places, digit: u64) -> Option<Places>
+    requires { digit < 16 }
+    ensures { result ≡ place_more places digit }
 {
-    if 16 <= d {
-        return Hex::Wrong;
+    if 16 <= places.count || 0x1000_0000_0000_0000 <= places.bits {
+        return None;
     }
-    if 16 <= k {
-        return Hex::Wrong;
-    }
-    if 0x1000_0000_0000_0000 <= bits {
-        return Hex::Wrong;
-    }
-    Hex::Places(k + 1, bits * 16 + d)
+    Some(Places {
+        count: places.count + 1,
+        bits: places.bits * 16 + digit,
+    })
 }
 
-fn hex_more(h: Hex, b: u8) -> Hex
-    ensures { result ≡ hex_more h b }
+fn hex_more(hex: Option<Places>, b: u8) -> Option<Places>
+    ensures { result ≡ hex_more hex b }
 {
-    match h {
-        Hex::Places(k, bits) => place_more(k, bits, hex_digit(b)),
-        Hex::Wrong => Hex::Wrong,
-    }
+    place_more(hex?, hex_digit(b)?)
 }
 
 // A field so far, as each of the things that a field may be.
-#[derive(Clone, Copy)]
+#[derive(Clone, Copy, Debug, PartialEq, Eq)]
 pub struct Token {
     pub word: Word,
     pub cell: Cell,
-    pub hex: Hex,
+    // no threshold where there is none
+    pub hex: Option<Places>,
 }
 
-pub fn fresh() -> Token
-    ensures { result ≡ Walk·fresh }
-{
-    Token {
-        word: Word::Empty,
-        cell: Cell::Empty,
-        hex: Hex::Places(0, 0),
+impl Token {
+    // Before the first byte.
+    pub fn fresh() -> Token
+        ensures { result ≡ Walk·fresh }
+    {
+        Token {
+            word: Word::Empty,
+            cell: Cell::Empty,
+            hex: Some(Places { count: 0, bits: 0 }),
+        }
     }
-}
 
-pub fn token_more(t: Token, b: u8) -> Token
-    ensures { result ≡ token_more t b }
-{
-    let word = t.word;
-    let cell = t.cell;
-    let hex = t.hex;
-    Token {
-        word: word_more(word, b),
-        cell: cell_more(cell, b),
-        hex: hex_more(hex, b),
+    // One byte more.
+    pub fn more(self, b: u8) -> Token
+        ensures { result ≡ token_more self b }
+    {
+        Token {
+            word: self.word.more(b),
+            cell: self.cell.more(b),
+            hex: hex_more(self.hex, b),
+        }
+    }
+
+    // The bits of a whole threshold.
+    pub fn bits(self) -> Option<u64>
+        ensures { option_of result ≡ as_bits self.hex }
+    {
+        self.hex
+            .filter(|places| places.count == 16)
+            .map(|places| places.bits)
     }
 }
