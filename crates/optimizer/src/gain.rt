@@ -12,7 +12,7 @@ use rows::{Position, Segment};
 // A gain of splits.
 pub trait Gain {
     // the gain of the split x of [start, stop)
-    ghost gain_of: { Self → ℕ → ℕ → ℕ → Float };
+    ghost gains: { Self → ℕ → ℕ → ℕ → Float };
 
     // that it is known of [start, stop)
     ghost IsKnown: { Self → ℕ → ℕ → Type 0 };
@@ -21,7 +21,7 @@ pub trait Gain {
     fn gain(&self, segment: Segment, split: Position) -> f64
         requires known { IsKnown self.now segment.start.0 segment.stop.0 }
         requires within { (segment.start.0 ≤ split.0) × (split.0 ≤ segment.stop.0) × (segment.stop.0 ≤ 4096) }
-        ensures { result ≡ gain_of self.now segment.start.0 segment.stop.0 split.0 };
+        ensures { result ≡ gains self.now segment.start.0 segment.stop.0 split.0 };
 }
 
 // The record of the greatest gain among the candidates of a segment, the first if several are equal; the one that it starts from if none is greater.
@@ -35,7 +35,7 @@ pub fn greatest<G: Gain>(
     requires start_le_stop { (segment.start.0 ≤ segment.stop.0) × (segment.stop.0 ≤ 4096) × (allowed.shortest.m ≤ 4096) }
     requires known { G.IsKnown gain.now segment.start.0 segment.stop.0 }
     requires of_segment { (from.start ≡ segment.start) × (from.stop ≡ segment.stop) }
-    ensures { to_record result ≡ best (to_record from) (trials (G.gain_of gain.now) (shortest_of allowed.entry.shortest) allowed.entry.forbidden.now segment.start.0 segment.stop.0) }
+    ensures { to_record result ≡ best (to_record from) (trials (G.gains gain.now) (shortest_of allowed.entry.shortest) allowed.entry.forbidden.now segment.start.0 segment.stop.0) }
 {
     let mut record = from;
     for split in Candidates::of(allowed, segment) {

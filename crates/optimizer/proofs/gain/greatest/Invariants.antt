@@ -9,7 +9,7 @@ use Rattle.optimizer.proofs.gain.greatest.Given as goal
 
 abbrev pub invariant-loop-split : goal.invariant-loop-split
 invariant-loop-split g l =
-    let gain = g.G.Gain.gain_of l.gain in
+    let gain = g.G.Gain.gains l.gain in
     let a = l.fn.segment.start.0 in
     let e = l.fn.segment.stop.0 in
     (goal.iterator-loop-split g).can_next l.split-iterator
