@@ -24,13 +24,14 @@ module _ (q : Run) (rs : List Record) (start stop : ℕ) where
     found : direct q start stop ≡ some (to_record d)
     found = record_some q.gain q.shortest q.forbidden start stop (to_record d) answer
 
+    -- the records inside its segment are those inside [start, stop)
+    same_inside : inside d.start.0 d.stop.0 rs ≡ inside start stop rs
+    same_inside = let (a, e) = record_ends q.gain q.shortest q.forbidden start stop (to_record d) answer in rw (a, e)
+
     module _ (c : GainRecord) (chosen : to_record c ≡ best (to_record d) (inside d.start.0 d.stop.0 rs)) where
-      -- the records inside its segment are those inside [start, stop)
       chosen_is : choice q rs start stop ≡ some (to_record c)
       unfolding choice
-      chosen_is =
-          let (a, e) = record_ends q.gain q.shortest q.forbidden start stop (to_record d) answer in
-          rw found (ap some (sym (rw (a, e) at chosen)))
+      chosen_is = rw found (ap some (sym (chosen ∙ ap (best (to_record d)) same_inside)))
 
       pub judged_cut : lt q.threshold c.max_gain ≡ true → Rules q rs start stop (Cut d c)
       unfolding verdict
