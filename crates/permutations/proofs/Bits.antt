@@ -1,10 +1,12 @@
 -- Marks as bits: to mark a value sets its bit, and leaves every other value's as it was. Assumes nothing.
-use Rattle.std.proofs.Common.{◌≡◌, ℕ, zero, suc, ◌+◌, ◌-◌, ◌/◌, ◌%◌, ◌^◌, ◌<◌, ◌≤◌, Bool, true, false, eqb, List, length, get_or, refl, ap, ◌∙◌, ⊎_elim, mod-lt, pow-suc, arith, get_or-set_other, get_or-set_same, pow_pos, pow-add, eqb-true}
+use Rattle.std.proofs.Common.{◌≡◌, ℕ, zero, suc, ◌+◌, ◌-◌, ◌/◌, ◌%◌, ◌^◌, ◌<◌, ◌≤◌, Bool, true, false, eqb, List, length, get_or, replicate, refl, ap, ◌∙◌, ⊎_elim, mod-lt, pow-suc, arith, get_or-set_other, get_or-set_same, pow_pos, pow-add, eqb-true}
 use native.Mathlib.Nat.{zero-div, mul-mod_left, div-eq_of_lt, div_self}
 use borrow.Author.Tests.{eqb-false}
+use lib.ListN.{get_or-eq_default}
+use Rattle.std.proofs.lemmas.List.{get_or-replicate, length-replicate}
 use lib.Bits.{bit_or, or_shr, or_mod, or_zero_r}
 use lib.Pow.{pow-lt, shl-shr}
-use Rattle.permutations.specs.Marks.{is_marked, with_mark, Unmarked}
+use Rattle.permutations.specs.Marks.{is_marked, with_mark}
 use Rattle.permutations.proofs.Times.{past}
 
 -- ---- the bit j of 2 ^ k
@@ -39,8 +41,11 @@ with_other : (x j k : ℕ) → (j ≡ k → ⊥) → bit_or x (2 ^ k) / 2 ^ j % 
 with_other x j k n = with_power x j k ∙ rw (power_other j k n) (or_zero_r _)
 
 -- ---- marks
-pub none_marked : (n : ℕ) (marks : List ℕ) → Unmarked marks → is_marked n marks ≡ false
-none_marked n marks u = rw (u.none (n % 65536), zero-div (2 ^ (n / 65536)))
+pub none_marked : (v n : ℕ) → is_marked v (replicate n 0) ≡ false
+none_marked v n = rw (none (v % 65536), zero-div (2 ^ (v / 65536)))
+  where
+    none : (k : ℕ) → ◌≡◌ {A = ℕ} (get_or (replicate n 0) k 0) 0
+    none k = ⊎_elim (λ (h : n ≤ k). get_or-eq_default (replicate n 0) 0 (omega (arith, length-replicate {A = ℕ} n 0))) (λ (h : k < n). get_or-replicate n k 0 0 h) (past n k)
 
 module _ (n : ℕ) (marks : List ℕ) (h : n % 65536 < length marks) where
   pub mark_same : is_marked n (with_mark n marks) ≡ true

@@ -1,10 +1,11 @@
 -- Marks of the values from low to high - 1: after the values passed, each that stands among them is marked, and stands there once. Assumes nothing.
-use Rattle.std.proofs.Common.{◌≡◌, ℕ, suc, ◌+◌, ◌-◌, ◌%◌, ◌<◌, ◌≤◌, Bool, true, false, cond, eqb, ltb, leb, List, [], ◌∷◌, ◌++◌, length, get_or, take, sym, refl, ap, ◌∙◌, true≢false, add-one, arith, take-suc, ltb-true, lt-ltb, eqb-true, le-leb, leb-false, leb-true}
+use Rattle.std.proofs.Common.{◌≡◌, ℕ, suc, ◌+◌, ◌-◌, ◌%◌, ◌<◌, ◌≤◌, Bool, true, false, cond, eqb, ltb, leb, List, [], ◌∷◌, ◌++◌, length, get_or, take, replicate, sym, refl, ap, ◌∙◌, true≢false, add-one, arith, take-suc, ltb-true, lt-ltb, eqb-true, le-leb, leb-false, leb-true}
 use mathlib.Core.Bool.{false≢true}
+use lib.Seq.{take-length}
 use borrow.Author.Tests.{eqb-false}
 use Rattle.scope.specs.Lists.{select, every}
 use Rattle.scope.specs.Permutations.{times, is_permutation}
-use Rattle.permutations.specs.Marks.{is_marked, with_mark, Unmarked, Serves, served, shows_wrong, with_value, Passed}
+use Rattle.permutations.specs.Marks.{is_marked, with_mark, Serves, served, shows_wrong, with_value, Passed}
 use Rattle.permutations.proofs.Bits.{none_marked, mark_same, mark_other}
 use Rattle.permutations.proofs.Times.{counted, times_append, times_same, times_other, times_take, refute, refuted_twice, refuted_outside}
 use Rattle.scope.proofs.Every.{every_append}
@@ -23,9 +24,9 @@ module _ (low high v : ℕ) where
 pub record Marked (low high : ℕ) (marks passed : List ℕ) : Type 0 where
   pub counts : (v : ℕ) → low ≤ v → v < high → times v passed ≡ counted (is_marked (v - low) marks)
 
-pub marked_none : (low high : ℕ) (marks : List ℕ) → Unmarked marks → Marked low high marks []
+pub marked_none : (low high n : ℕ) → Marked low high (replicate n 0) []
 unfolding select counted
-marked_none low high marks u = record { counts = λ v l h. rw (none_marked (v - low) marks u) }
+marked_none low high n = record { counts = λ v l h. rw (none_marked (v - low) n) }
 
 pub marked_once : (low high : ℕ) (marks passed : List ℕ) → Marked low high marks passed → (v : ℕ) → low ≤ v → v < high → times v passed ≤ 1
 unfolding counted
@@ -69,18 +70,29 @@ module _ (L low high v : ℕ) (marks passed : List ℕ) (m : Marked low high mar
       go true p n = omega (arith, served_of low high v p)
       go false p n = leb-false L v n
 
--- ---- a pass over a proposed permutation, at its entry number i
-module _ (L low high : ℕ) (permutation : List ℕ) (i : ℕ) (h : i < length permutation) (marks : List ℕ) (s : Serves L low high marks) (m : Marked low high marks (take i permutation)) where
-  pub marks_more : shows_wrong L low high (get_or permutation i 0) marks ≡ false → Marked low high (with_value low high (get_or permutation i 0) marks) (take (i + 1) permutation)
-  marks_more n = rw (add-one, take-suc permutation i 0) (marked_more L low high (get_or permutation i 0) marks (take i permutation) m s n)
+-- ---- a pass over a proposed permutation: nothing that was passed is out of range, and all that is served is marked
+pub record Clean (L low high : ℕ) (marks passed : List ℕ) : Type 0 where
+  pub inside : every (λ v. ltb v L) passed ≡ true
+  pub marked : Marked low high marks passed
 
-  pub inside_more : shows_wrong L low high (get_or permutation i 0) marks ≡ false → every (λ v. ltb v L) (take i permutation) ≡ true → every (λ v. ltb v L) (take (i + 1) permutation) ≡ true
+pub clean_none : (L low high n : ℕ) → Clean L low high (replicate n 0) []
+unfolding every
+clean_none L low high n = record { inside = refl; marked = marked_none low high n }
+
+-- at its entry number i
+module _ (L low high : ℕ) (permutation : List ℕ) (i : ℕ) (h : i < length permutation) (marks : List ℕ) (s : Serves L low high marks) (c : Clean L low high marks (take i permutation)) where
+  pub clean_more : shows_wrong L low high (get_or permutation i 0) marks ≡ false → Clean L low high (with_value low high (get_or permutation i 0) marks) (take (i + 1) permutation)
   unfolding every
-  inside_more n e = rw (add-one, take-suc permutation i 0, every_append, e, lt-ltb (get_or permutation i 0) L (in_range_lem L low high (get_or permutation i 0) marks (take i permutation) m s n))
+  clean_more n =
+      let v = get_or permutation i 0 in
+      record {
+        inside = rw (add-one, take-suc permutation i 0, every_append, c.inside, lt-ltb v L (in_range_lem L low high v marks (take i permutation) c.marked s n));
+        marked = rw (add-one, take-suc permutation i 0) (marked_more L low high v marks (take i permutation) c.marked s n);
+      }
 
-  pub shown_wrong : shows_wrong L low high (get_or permutation i 0) marks ≡ true → is_permutation L permutation ≡ false
+  pub shown_wrong : shows_wrong L low high (get_or permutation i 0) marks ≡ true → Passed L low high permutation true
   unfolding counted
-  shown_wrong t = go (served low high v) refl t
+  shown_wrong t = record { refuted = λ e. go (served low high v) refl t; apart = λ f. absurd (true≢false f) }
     where
       v : ℕ
       v = get_or permutation i 0
@@ -88,10 +100,16 @@ module _ (L low high : ℕ) (permutation : List ℕ) (i : ℕ) (h : i < length p
       go : (b : Bool) → served low high v ≡ b → cond b (is_marked (v - low) marks) (leb L v) ≡ true → is_permutation L permutation ≡ false
       go true p t =
           let (l, k) = served_of low high v p in
-          let once : times v (take i permutation) ≡ 1 = m.counts v l k ∙ ap counted t in
-          let whole = rw (← take-suc permutation i 0 h) at (same L low high v marks (take i permutation) m) in
+          let once : times v (take i permutation) ≡ 1 = c.marked.counts v l k ∙ ap counted t in
+          let whole = rw (← take-suc permutation i 0 h) at (same L low high v marks (take i permutation) c.marked) in
           refuted_twice L v permutation (omega arith) (omega (arith, whole, times_take v (suc i) permutation))
       go false p t = refuted_outside L v permutation (leb-true L v t) (at_in permutation i 0 h)
 
-pub wrong_passed : {L low high : ℕ} {permutation : List ℕ} → is_permutation L permutation ≡ false → Passed L low high permutation true
-wrong_passed e = record { refuted = λ t. e; apart = λ f. absurd (true≢false f) }
+-- past the last entry
+pub clean_whole : (L low high : ℕ) (permutation marks : List ℕ) → Clean L low high marks (take (length permutation) permutation) → Passed L low high permutation false
+clean_whole L low high permutation marks c =
+    let whole : take (length permutation) permutation ≡ permutation = take-length permutation in
+    record {
+      refuted = λ f. absurd (false≢true f);
+      apart = λ t. record { inside = rw whole at c.inside; once = marked_once low high marks permutation (rw whole at c.marked) };
+    }

@@ -1,6 +1,5 @@
 -- Passes over a list of permutations, one after another. Assumes nothing.
-use Rattle.std.proofs.Common.{◌≡◌, ℕ, ◌+◌, ◌*◌, ◌/◌, ◌%◌, ◌<◌, ◌≤◌, Bool, true, false, not, ◌||◌, eqb, ltb, List, length, sym, refl, ap, ◌∙◌, ⊎_elim, true≢false, add-zero, mul-le-mul_right, suc-mul, zero-mul, arith, length-drop, length-take-le, ltb-false, le-ltb, lt-ltb, eq-eqb, ne_eqb, eqb-true}
-use native.Mathlib.Nat.{div-add-mod, mul-mod_right, mul-div_right}
+use Rattle.std.proofs.Common.{◌≡◌, ℕ, ◌+◌, ◌*◌, ◌<◌, ◌≤◌, Bool, true, false, not, ◌||◌, eqb, ltb, List, length, sym, refl, ap, ◌∙◌, ⊎_elim, true≢false, mul-le-mul_right, suc-mul, arith, length-drop, length-take-le, ltb-false, eqb-true}
 use borrow.Author.Tests.{not-false}
 use Rattle.scope.specs.Lists.{every, upward}
 use Rattle.scope.specs.Permutations.{times, is_permutation, block, wrong_permutations}
@@ -53,42 +52,11 @@ module _ (P L : ℕ) (permutations : List ℕ) where
     };
   }
 
--- ---- a count n is the product of p and l exactly if p divides it, l times
-pub product : (n p l : ℕ) → n % p ≡ 0 → n / p ≡ l → n ≡ p * l
-product n p l r q = sym (div-add-mod n p) ∙ rw (r, q, add-zero)
-
-pub no_product_left : (n p l : ℕ) → (n % p ≡ 0 → ⊥) → n ≡ p * l → ⊥
-no_product_left n p l h e = h (rw e (mul-mod_right p l))
-
-pub no_product_times : (n p l : ℕ) → 0 < p → (n / p ≡ l → ⊥) → n ≡ p * l → ⊥
-no_product_times n p l pos h e = h (rw e (mul-div_right l pos))
-
--- ---- refusal 11 by its three parts
+-- ---- what is not refused
 module _ (P L : ℕ) (permutations : List ℕ) where
-  pub wrong_many : most_permutations < P → true ≡ wrong_permutations P L permutations
-  unfolding wrong_permutations
-  wrong_many h = simp (lt-ltb most_permutations P h)
-
-  pub wrong_count : P ≤ most_permutations → (length permutations ≡ P * L → ⊥) → true ≡ wrong_permutations P L permutations
-  unfolding wrong_permutations
-  wrong_count h n = simp (le-ltb most_permutations P h, ne_eqb (length permutations) (P * L) n)
-
-  pub wrong_some : P ≤ most_permutations → length permutations ≡ P * L → not (all_true P L permutations) ≡ wrong_permutations P L permutations
-  unfolding wrong_permutations
-  wrong_some h e = simp (le-ltb most_permutations P h, eq-eqb (length permutations) (P * L) e)
-
   pub right_all : wrong_permutations P L permutations ≡ false → (P ≤ most_permutations) × (length permutations ≡ P * L) × (all_true P L permutations ≡ true)
   unfolding wrong_permutations
   right_all e =
       let (rest, all) = or_false (ltb most_permutations P || not (eqb (length permutations) (P * L))) _ e in
       let (few, count) = or_false (ltb most_permutations P) _ rest in
       (ltb-false most_permutations P few, eqb-true (length permutations) (P * L) (not-false _ count), not-false _ all)
-
-  -- there are none
-  pub wrong_none : P ≡ 0 → not (eqb (length permutations) 0) ≡ wrong_permutations P L permutations
-  unfolding wrong_permutations upward every
-  wrong_none e = rw (e, zero-mul) (go (eqb (length permutations) 0))
-    where
-      go : (b : Bool) → not b ≡ (not b || false)
-      go true = refl
-      go false = refl

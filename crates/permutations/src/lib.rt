@@ -2,8 +2,35 @@
 #![tactic(auto)]
 
 ghost use Rattle.std.specs.Prelude.{◌≡◌, ◌-◌, ◌*◌, ◌%◌, ◌<◌, ◌≤◌, false, not, length};
-ghost use Rattle.scope.specs.Permutations.{wrong_permutations};
-ghost use Rattle.permutations.specs.Marks.{is_marked, with_mark, Unmarked, Serves, shows_wrong, with_value, Passed, PassedAll, all_true};
+ghost use Rattle.scope.specs.Permutations.{block, wrong_permutations};
+ghost use Rattle.permutations.specs.Marks.{is_marked, with_mark, Serves, shows_wrong, with_value, Passed, PassedAll, all_true};
+
+// p proposed permutations, one after another in one list.
+#[derive(Clone, Copy)]
+pub struct Permutations<'a> {
+    pub indices: &'a [usize],
+    pub p: usize,
+}
+
+impl<'a> Permutations<'a> {
+    // Permutation number q, where each has l indices.
+    pub fn at(self, q: usize, l: usize) -> &'a [usize]
+        requires { (q < self.p) × (length self.indices.now ≡ self.p * l) }
+        ensures { result.now ≡ block l self.entry.indices.now q }
+    {
+        let start = q * l;
+        &self.indices[start..start + l]
+    }
+}
+
+// The values from low to high - 1, of those below l: a pass serves them.
+#[derive(Clone, Copy)]
+struct Served {
+    l: usize,
+    low: usize,
+    high: usize,
+    ghost in_order: { (low ≤ high) × (high ≤ l) },
+}
 
 // How many bytes of marks a pass has at most.
 const BYTES: usize = 65536;
@@ -23,63 +50,46 @@ fn mark(n: usize, marks: &mut [u8]) -> bool
     if (marks[at] >> bit) % 2 == 1 {
         return true;
     }
-    marks[at] = marks[at] | (1 << bit);
+    marks[at] |= 1 << bit;
     false
 }
 
-// Clears every mark.
-fn clear(marks: &mut [u8])
-    ensures { Unmarked marks.new }
+// Whether v shows that a proposed permutation of 0..l-1 is wrong: it is out of range, or a value that is served and marked already.
+// The difference wraps, so that one comparison tells whether v is served.
+fn shows_wrong(v: usize, served: Served, marks: &mut [u8]) -> bool
+    requires { Serves served.l served.low served.high marks.old }
+    ensures found { result ≡ shows_wrong served.l served.low served.high v marks.old }
+    ensures marks { result ≡ false → marks.new ≡ with_value served.low served.high v marks.old }
 {
-    for k in 0..marks.len() {
-        marks[k] = 0;
-    }
-}
-
-// Whether v shows that a proposed permutation of 0..l-1 is wrong: it is out of range, or one of the values from low to high - 1 and marked already.
-// The difference wraps, so that one comparison tells whether v is one of these values.
-fn shows_wrong(v: usize, l: usize, low: usize, high: usize, marks: &mut [u8]) -> bool
-    requires { Serves l low high marks.old }
-    ensures found { result ≡ shows_wrong l low high v marks.old }
-    ensures marks { result ≡ false → marks.new ≡ with_value low high v marks.old }
-{
-    let n = std::num::wrapping_sub_usize(v, low);
-    if n < high - low {
+    let n = v.wrapping_sub(served.low);
+    if n < served.high - served.low {
         return mark(n, marks);
     }
-    l <= v
+    served.l <= v
 }
 
-// Whether a proposed permutation of 0..l-1 is wrong, as far as one pass shows: an entry is out of range, or one of the values from low to high - 1 stands twice.
-fn holds_wrong(permutation: &[usize], l: usize, low: usize, high: usize, marks: &mut [u8]) -> bool
-    requires { Serves l low high marks.old }
-    ensures { Passed l low high permutation.now result }
+// Whether a proposed permutation of 0..l-1 is wrong, as far as one pass shows: an entry is out of range, or a value that is served stands twice.
+fn holds_wrong(permutation: &[usize], served: Served, marks: &mut [u8]) -> bool
+    requires { Serves served.l served.low served.high marks.old }
+    ensures { Passed served.l served.low served.high permutation.now result }
 {
-    clear(marks);
-    for i in 0..permutation.len() {
-        if shows_wrong(permutation[i], l, low, high, marks) {
+    marks.fill(0);
+    for &v in permutation {
+        if shows_wrong(v, served, marks) {
             return true;
         }
     }
     false
 }
 
-// One pass over p permutations, for the values from low to high - 1.
-fn pass(
-    permutations: &[usize],
-    p: usize,
-    l: usize,
-    low: usize,
-    high: usize,
-    marks: &mut [u8],
-) -> bool
-    requires { (length permutations.now ≡ p * l) × Serves l low high marks.old }
-    ensures { PassedAll p l low high permutations.now result }
+// One pass over the permutations.
+// They are taken by number: `chunks_exact` admits no length of 0.
+fn pass(permutations: Permutations, served: Served, marks: &mut [u8]) -> bool
+    requires { (length permutations.indices.now ≡ permutations.p * served.l) × Serves served.l served.low served.high marks.old }
+    ensures { PassedAll permutations.entry.p served.l served.low served.high permutations.entry.indices.now result }
 {
-    for q in 0..p {
-        let start = q * l;
-        let stop = start + l;
-        if holds_wrong(&permutations[start..stop], l, low, high, marks) {
+    for q in 0..permutations.p {
+        if holds_wrong(permutations.at(q, served.l), served, marks) {
             return true;
         }
     }
@@ -87,29 +97,41 @@ fn pass(
 }
 
 // One pass, with marks of its own: 64 KiB of the stack.
-fn any_wrong_within(permutations: &[usize], p: usize, l: usize, low: usize, high: usize) -> bool
-    requires { (length permutations.now ≡ p * l) × (low ≤ high) × (high ≤ l) × (high - low ≤ 524288) }
-    ensures { PassedAll p l low high permutations.now result }
+fn any_wrong_within(permutations: Permutations, served: Served) -> bool
+    requires { (length permutations.indices.now ≡ permutations.p * served.l) × (served.high - served.low ≤ 524288) }
+    ensures { PassedAll permutations.entry.p served.l served.low served.high permutations.entry.indices.now result }
 {
     let mut marks = [0u8; BYTES];
-    pass(permutations, p, l, low, high, &mut marks)
+    pass(permutations, served, &mut marks)
 }
 
-// As many passes as the values from low to high - 1 take: half of them, then the rest.
+// As many passes as the values take: half of them, then the rest.
 // A loop would do; a function that calls itself keeps those 64 KiB out of its callers' stack, where the compiler would else put them for every length.
-fn any_wrong_between(permutations: &[usize], p: usize, l: usize, low: usize, high: usize) -> bool
-    requires { (length permutations.now ≡ p * l) × (low ≤ high) × (high ≤ l) }
-    ensures { PassedAll p l low high permutations.now result }
+fn any_wrong_between(permutations: Permutations, served: Served) -> bool
+    requires { length permutations.indices.now ≡ permutations.p * served.l }
+    ensures { PassedAll permutations.entry.p served.l served.low served.high permutations.entry.indices.now result }
 {
-    if high - low <= SERVED {
-        return any_wrong_within(permutations, p, l, low, high);
+    if served.high - served.low <= SERVED {
+        return any_wrong_within(permutations, served);
     }
+    let Served { l, low, high } = served;
     let passes = (high - low) / SERVED + 1;
     let middle = low + passes / 2 * SERVED;
-    if any_wrong_between(permutations, p, l, low, middle) {
-        return true;
-    }
-    any_wrong_between(permutations, p, l, middle, high)
+    any_wrong_between(
+        permutations,
+        Served {
+            l,
+            low,
+            high: middle,
+        },
+    ) || any_wrong_between(
+        permutations,
+        Served {
+            l,
+            low: middle,
+            high,
+        },
+    )
 }
 
 // The greatest admitted length.
@@ -118,40 +140,32 @@ const ADMITTED: usize = 4096;
 // So many bytes are cleared without a call, which for short permutations would take longer than the pass.
 const FEW: usize = 64;
 
-// Whether one of p permutations is wrong. An admitted length takes one pass, in which each value has a byte of its own.
-fn any_wrong(permutations: &[usize], p: usize, l: usize) -> bool
-    requires { length permutations.now ≡ p * l }
-    ensures { result ≡ not (all_true p l permutations.now) }
+// Whether one of the permutations is wrong. An admitted length takes one pass, in which each value has a byte of its own.
+#[tactic(auto, using(crate::proofs::Passes::passed_whole))]
+fn any_wrong(permutations: Permutations, l: usize) -> bool
+    requires { length permutations.indices.now ≡ permutations.p * l }
+    ensures { result ≡ not (all_true permutations.entry.p l permutations.entry.indices.now) }
 {
+    let served = Served { l, low: 0, high: l };
     if l <= FEW {
         let mut marks = [0u8; FEW];
-        return pass(permutations, p, l, 0, l, &mut marks);
+        return pass(permutations, served, &mut marks);
     }
     if l <= ADMITTED {
         let mut marks = [0u8; ADMITTED];
-        return pass(permutations, p, l, 0, l, &mut marks[0..l]);
+        return pass(permutations, served, &mut marks[..l]);
     }
-    any_wrong_between(permutations, p, l, 0, l)
+    any_wrong_between(permutations, served)
 }
 
 const MOST_PERMUTATIONS: usize = 999;
 
 // Whether there are too many permutations, their entries do not number p * l, or one of them is no permutation of 0..l-1.
-// The count is compared by division, so that no product wraps.
-pub fn wrong_permutations(p: usize, l: usize, permutations: &[usize]) -> bool
-    ensures { result ≡ wrong_permutations p l permutations.now }
+#[tactic(auto, unfolding(scope::specs::Permutations::wrong_permutations))]
+pub fn wrong_permutations(permutations: Permutations, l: usize) -> bool
+    ensures { result ≡ wrong_permutations permutations.entry.p l permutations.entry.indices.now }
 {
-    if MOST_PERMUTATIONS < p {
-        return true;
-    }
-    if p == 0 {
-        return permutations.len() != 0;
-    }
-    if permutations.len() % p != 0 {
-        return true;
-    }
-    if permutations.len() / p != l {
-        return true;
-    }
-    any_wrong(permutations, p, l)
+    MOST_PERMUTATIONS < permutations.p
+        || permutations.p.checked_mul(l) != Some(permutations.indices.len())
+        || any_wrong(permutations, l)
 }

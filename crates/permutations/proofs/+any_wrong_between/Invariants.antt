@@ -3,4 +3,4 @@ use Rattle.std.proofs.Common.{◌-◌}
 use Rattle.permutations.proofs.+any_wrong_between.Given as goal
 
 abbrev pub decreases-any_wrong_between : goal.decreases-any_wrong_between
-decreases-any_wrong_between l = l.high - l.low
+decreases-any_wrong_between l = l.served.high - l.served.low
