@@ -1,22 +1,15 @@
--- Whether a list is given: it is empty exactly where its length is 0; and what follows for T. Assumes nothing.
+-- What is stored by draws or by layers; and how small T is. Assumes nothing.
 use mathlib.Core.Path.{◌≡◌, refl}
-use mathlib.Core.Bool.{false, not}
+use mathlib.Core.Bool.{false}
 use mathlib.Core.List.{List, [], ◌∷◌}
 use Prim.Native.Nat.{ℕ, ◌≤◌}
 use native.Mathlib.Omega.{arith}
-use borrow.Author.Tests.{ne_eqb}
-use lib.Dec.{eqb}
 use lib.ListN.{length}
-use Rattle.scope.specs.Lists.{is_empty}
 use Rattle.scope.specs.Asked.{Source}
 use Rattle.scope.specs.Refusals.{wrong_layers}
 use Rattle.scope.specs.Layers.{layers_total}
 use Rattle.scope.specs.Draws.{by_draws, most_stored}
 use Rattle.layers.proofs.Layered.{total_most}
-
-pub given_is : {A : Type 0} (l : List A) → not (eqb (length l) 0) ≡ not (is_empty l)
-given_is [] = refl
-given_is (x ∷ l) = rw (ne_eqb (length (x ∷ l)) 0 (λ e. omega arith))
 
 -- "layers or draws"
 module _ {A : Type 0} (draws : List ℕ) (layered wild : A) where

@@ -1,3 +1,3 @@
--- Draws: whether there are any; whether one stops past the run.
+-- What is stored by draws or by layers; whether a draw stops past the run.
 pub mod Given
 pub mod Past

@@ -6,7 +6,10 @@ ghost use Rattle.std.specs.Prelude.{◌≡◌, false, ◌+◌, ◌<◌, length, 
 ghost use Rattle.scope.specs.Refusals.{first_of, wrong_layers};
 ghost use Rattle.scope.specs.Draws.{is_searched, is_odd, both_given, is_past, any_past, most_stored, source_tests};
 ghost use Rattle.rows.specs.Segments.{to_segment};
+ghost use Rattle.control.specs.Refused.{number_in};
+ghost use Rattle.control.specs.Settings.{source_of};
 
+use control::{Refusal, Source};
 use rows::{Position, Segment};
 
 // W is at most this.
@@ -27,7 +30,7 @@ pub fn draw_at(draws: &[usize], at: usize) -> Segment
 pub fn is_searched(draw: Segment) -> bool
     ensures { result ≡ is_searched (to_segment draw) }
 {
-    draw.start.0 < draw.stop.0
+    draw.start < draw.stop
 }
 
 // Whether a draw stops past the run's n rows.
@@ -41,17 +44,16 @@ fn is_past(draw: Segment, n: usize) -> bool
 pub fn any_past(draws: &[usize], n: usize) -> bool
     ensures { result ≡ any_past n draws.now }
 {
-    let mut i = 0;
-    while i + 1 < draws.len() {
-        if is_past(draw_at(draws, i), n) {
+    for pair in draws.chunks_exact(2) {
+        if is_past(draw_at(pair, 0), n) {
             return true;
         }
-        i += 2;
     }
     false
 }
 
 // Whether an entry of the list has no partner.
+#[tactic(auto, unfolding(scope::specs::Draws::is_odd))]
 fn is_odd(draws: &[usize]) -> bool
     ensures { result ≡ is_odd draws.now }
 {
@@ -59,38 +61,39 @@ fn is_odd(draws: &[usize]) -> bool
 }
 
 // Whether there are layers and draws.
+#[tactic(auto, unfolding(scope::specs::Draws::both_given))]
 fn both_given(layers: &[f64], draws: &[usize]) -> bool
     ensures { result ≡ both_given layers.now draws.now }
 {
-    layers.len() != 0 && draws.len() != 0
+    !layers.is_empty() && !draws.is_empty()
 }
 
-// 5 and 6 of the lists that stored segments come from, and W: the number that applies, or 0.
-pub fn source_refusal(layers: &[f64], draws: &[usize], w: usize) -> u32
-    ensures { result ≡ first_of (source_tests (record { layers = layers.now; draws = draws.now; W = w })) }
+// 5 and 6 of what stored segments come from.
+pub fn source_refusal(source: Source) -> Result<(), Refusal>
+    ensures { number_in result ≡ first_of (source_tests (source_of source.entry)) }
 {
-    if is_odd(draws) {
-        return 5;
+    if is_odd(source.draws) {
+        return Err(Refusal::Pairs);
     }
-    if layers::wrong_layers(layers) {
-        return 6;
+    if layers::wrong_layers(source.layers) {
+        return Err(Refusal::Source);
     }
-    if both_given(layers, draws) {
-        return 6;
+    if both_given(source.layers, source.draws) {
+        return Err(Refusal::Source);
     }
-    if MOST_WILD < w {
-        return 6;
+    if MOST_WILD < source.w {
+        return Err(Refusal::Source);
     }
-    0
+    Ok(())
 }
 
 // T, the most records that are stored: W where there are draws, else the layers' counts summed.
-pub fn most_stored(layers: &[f64], draws: &[usize], w: usize) -> usize
-    requires { wrong_layers layers.now ≡ false }
-    ensures { result ≡ most_stored (record { layers = layers.now; draws = draws.now; W = w }) }
+pub fn most_stored(source: Source) -> usize
+    requires { wrong_layers source.layers.now ≡ false }
+    ensures { result ≡ most_stored (source_of source.entry) }
 {
-    if draws.len() == 0 {
-        return layers::layers_total(layers);
+    if source.draws.is_empty() {
+        return layers::layers_total(source.layers);
     }
-    w
+    source.w
 }

@@ -25,6 +25,7 @@ pub struct Layer {
     pub step: f64,
     // in rows, rounded up
     pub length: usize,
+    ghost made: { Made n value count step length },
 }
 
 // Whether v is a layer's value.
@@ -38,17 +39,7 @@ fn is_layer(v: f64) -> bool
 pub fn wrong_layers(layers: &[f64]) -> bool
     ensures { result ≡ wrong_layers layers.now }
 {
-    if MOST_LAYERS < layers.len() {
-        return true;
-    }
-    let mut i = 0;
-    while i < layers.len() {
-        if !is_layer(layers[i]) {
-            return true;
-        }
-        i += 1;
-    }
-    false
+    MOST_LAYERS < layers.len() || !layers.iter().all(|value| is_layer(*value))
 }
 
 // Truncation of f32(x).
@@ -57,7 +48,7 @@ fn truncated(x: f64) -> usize
     ensures { result ≡ truncation (to_f32 x) }
 {
     let narrow = rounding::nearest_f32(x);
-    rounding::truncation_f32(narrow) as usize
+    rounding::truncation(f64::from(narrow)) as usize
 }
 
 // ceil(f32(x)).
@@ -66,7 +57,7 @@ fn rounded_up(x: f64) -> usize
     ensures { result ≡ ceiling (to_f32 x) }
 {
     let narrow = rounding::nearest_f32(x);
-    rounding::ceiling_f32(narrow) as usize
+    rounding::ceiling(f64::from(narrow)) as usize
 }
 
 // How many segments a layer has.
@@ -83,10 +74,8 @@ pub fn layers_total(layers: &[f64]) -> usize
     ensures { result ≡ layers_total layers.now }
 {
     let mut total = 0;
-    let mut i = 0;
-    while i < layers.len() {
-        total += layer_count(layers[i]);
-        i += 1;
+    for value in layers {
+        total += layer_count(*value);
     }
     total
 }
@@ -95,7 +84,7 @@ impl Layer {
     // A layer of one segment has no step: its start is 0, and step is not read.
     pub fn new(n: usize, v: f64) -> Layer
         requires { (n ≤ 4096) × (is_layer v ≡ true) }
-        ensures { (result.n ≡ n) × (result.value ≡ v) × Made result }
+        ensures { (result.n ≡ n) × (result.value ≡ v) }
     {
         let len = n as f64 * v;
         let count = layer_count(v);
@@ -110,7 +99,7 @@ impl Layer {
 
     // Where the segment number id starts.
     fn start(self, id: usize) -> Position
-        requires { Made self × (id < self.count) }
+        requires { id < self.count }
         ensures { result.0 ≡ layer_start self.n self.value id }
     {
         if self.count == 1 {
@@ -121,19 +110,16 @@ impl Layer {
 
     // Where a segment that starts there stops.
     fn stop(self, start: Position) -> Position
-        requires { Made self × (start.0 ≤ self.n) }
+        requires { start.0 ≤ self.n }
         ensures { result.0 ≡ min (start.0 + self.length) self.n }
     {
         let stop = Offset(self.length).position_from(start);
-        if stop.0 < self.n {
-            return stop;
-        }
-        Position(self.n)
+        stop.min(Position(self.n))
     }
 
     // The segment number id. It lies in the run.
     pub fn segment(self, id: usize) -> Segment
-        requires { Made self × (id < self.count) }
+        requires { id < self.count }
         ensures { (result.start.0 ≡ layer_start self.n self.value id) × (result.stop.0 ≡ layer_stop self.n self.value id) × (result.start.0 ≤ result.stop.0) × (result.stop.0 ≤ self.n) }
     {
         let start = self.start(id);

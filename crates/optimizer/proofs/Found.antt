@@ -15,13 +15,25 @@ use Rattle.scope.specs.Refusals.{Answer, refused, given, unless}
 use Rattle.scope.specs.Asked.{Shortest, end_of}
 use Rattle.scope.specs.Candidates.{candidates}
 use Rattle.scope.specs.Greatest.{numeric, FirstGreatest, kept, taken}
-use Rattle.scope.specs.Grid.{Record, blank, best, trial, trials, of_some, search}
+use Rattle.scope.specs.Grid.{Record, blank, better, best, trial, trials, of_some, search}
 use Rattle.scope.proofs.Candidates.{candidates_are, refusal_9_10}
 use Rattle.scope.proofs.Greatest.{best_is_first, not_above_lem}
 use Rattle.scope.proofs.Order.{both, lt_irrefl}
 use Rattle.scope.proofs.Never.{never}
 use Rattle.optimizer.specs.Records.{searched}
-use Rattle.optimizer.proofs.Walk.{best_ends}
+
+-- every record of a search is of the segment [a, e)
+best_ends : (gain : ℕ → ℕ → ℕ → Float) (a e : ℕ) (b : Record) (xs : List ℕ) → b.start ≡ a → b.stop ≡ e
+    → ((best b (map (trial gain a e) xs)).start ≡ a) × ((best b (map (trial gain a e) xs)).stop ≡ e)
+unfolding best better
+best_ends gain a e b [] h k = (h, k)
+best_ends gain a e b (x ∷ xs) h k = go (lt b.gain (gain a e x)) (best_ends gain a e b xs h k) (best_ends gain a e (trial gain a e x) xs refl refl)
+  where
+    go : (w : Bool) → ((best b (map (trial gain a e) xs)).start ≡ a) × ((best b (map (trial gain a e) xs)).stop ≡ e)
+        → ((best (trial gain a e x) (map (trial gain a e) xs)).start ≡ a) × ((best (trial gain a e x) (map (trial gain a e) xs)).stop ≡ e)
+        → ((best (cond w (trial gain a e x) b) (map (trial gain a e) xs)).start ≡ a) × ((best (cond w (trial gain a e x) b) (map (trial gain a e) xs)).stop ≡ e)
+    go true i j = j
+    go false i j = i
 
 module _ (gain : ℕ → ℕ → ℕ → Float) (short : Shortest) (ps : List ℕ) (start stop : ℕ) where
   abbrev answer : Answer Record

@@ -1,3 +1,4 @@
 -- The code's own types, as document 01's values.
 pub mod Records
 pub mod Marks
+pub mod Left

@@ -7,13 +7,12 @@ use Rattle.scope.specs.Candidates.{no10}
 use Rattle.scope.specs.Origin as scope
 use Rattle.scope.specs.Grid.{Record, blank, best, trials}
 use Rattle.scope.specs.Calls.{Split, split_of}
+use Rattle.control.specs.Refused.{number_of}
 use Rattle.optimizer.specs.declared.optimizer_result.Origin.{Origin}
 use Rattle.optimizer.specs.declared.optimizer_result.Origin.TheVariants as origin
 use Rattle.optimizer.specs.declared.optimizer_result.GainRecord.{GainRecord}
 use Rattle.optimizer.specs.declared.optimizer_result.BestSplit.{BestSplit}
 use Rattle.optimizer.specs.declared.optimizer_result.BestSplit.TheVariants as best_split
-use Rattle.optimizer.specs.declared.optimizer_result.Searched.{Searched}
-use Rattle.optimizer.specs.declared.optimizer_result.Searched.TheVariants as handed
 
 -- what the enum says, and the case that says it
 abbrev pub to_origin : Origin → scope.Origin
@@ -49,14 +48,9 @@ abbrev pub guessed : ℕ → ℕ → ℕ → Record
 guessed start stop guess = record { start = start; stop = stop; split = guess; gain = lowest; origin = scope.direct }
 
 -- "A search answers with a split and its gain, or a number."
-abbrev pub best_split_of : Answer Split → BestSplit
-best_split_of (refused k) = best_split.Refused k
-best_split_of (given s) = best_split.Found (record { 0 = s.split }) s.gain
-
--- inside the library: with its record, or a number
-abbrev pub searched_of : Answer Record → Searched
-searched_of (refused k) = handed.Refused k
-searched_of (given r) = handed.Record (from_record r)
+abbrev pub best_split_told : BestSplit → Answer Split
+best_split_told (best_split.Found p gain) = given (record { split = p.0; gain = gain })
+best_split_told (best_split.Refused r) = refused (number_of r)
 
 -- the record's split and gain
 abbrev pub split_found : Answer Record → Answer Split

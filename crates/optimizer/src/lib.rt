@@ -2,5 +2,6 @@
 #![tactic(auto)]
 
 pub mod candidates;
+pub mod gain;
 pub mod marks;
 pub mod optimizer_result;

@@ -12,9 +12,7 @@ pub const ROWS: usize = 4097;
 fn clear(marks: &mut [bool])
     ensures { Unmarked marks.old marks.new }
 {
-    for k in 0..marks.len() {
-        marks[k] = false;
-    }
+    marks.fill(false);
 }
 
 // Marks the rows that the pair (a, b) bars: a < x <= b.
@@ -22,11 +20,9 @@ fn mark_pair(a: usize, b: usize, marks: &mut [bool])
     requires { 4096 < length marks.old }
     ensures { PairMarked a b marks.old marks.new }
 {
-    let last = if b < ROWS { b } else { ROWS - 1 };
-    let mut x = a;
-    while x < last {
-        x += 1;
-        marks[x] = true;
+    let last = b.min(ROWS - 1);
+    if a < last {
+        marks[a + 1..=last].fill(true);
     }
 }
 
@@ -39,22 +35,17 @@ pub fn mark(forbidden: &[usize], marks: &mut [bool])
         return;
     }
     clear(marks);
-    let mut i = 0;
-    while i + 1 < forbidden.len() {
-        mark_pair(forbidden[i], forbidden[i + 1], marks);
-        i += 2;
+    for pair in forbidden.chunks_exact(2) {
+        mark_pair(pair[0], pair[1], marks);
     }
 }
 
 // Whether some pair of the list bars the row: what its mark says.
+#[tactic(auto, using(crate::proofs::Barred::short))]
 pub fn is_barred(forbidden: &[usize], marks: &[bool], row: Position) -> bool
     requires marked_if_any { MarkedIfAny forbidden.now marks.now }
     requires row_bound { row.0 ≤ 4096 }
     ensures { result ≡ is_barred forbidden.now row.0 }
 {
-    if forbidden.len() < 2 {
-        return false;
-    }
-    let x = row.0;
-    marks[x]
+    2 <= forbidden.len() && marks[row.0]
 }

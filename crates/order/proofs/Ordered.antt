@@ -6,7 +6,8 @@ use mathlib.Core.List.{List, [], ◌∷◌}
 use Prim.Native.Nat.{ℕ, zero, suc, ◌+◌, ◌≤◌, ◌<◌}
 use native.Mathlib.Omega.{arith}
 use lib.Ieee.{Float}
-use lib.ListN.{length, get_or}
+use lib.ListN.{length, get_or, drop, length-drop}
+use lib.Seq.{get_or-drop}
 use Rattle.scope.specs.Floats.{+0}
 use Rattle.scope.specs.Neighbours.{is_nearer, insert, ordered}
 use Rattle.scope.specs.Sorted.{Before, Sorted}
@@ -20,6 +21,10 @@ pub default : (l : List Float) (i : ℕ) (d e : Float) → i < length l → get_
 default [] i d e h = absurd (omega arith)
 default (x ∷ l) zero d e h = refl
 default (x ∷ l) (suc i) d e h = default l i d e (omega arith)
+
+-- what is left of a list
+pub below_drop : (n : ℕ) (l : List ℕ) (k : ℕ) → Below n l → Below n (drop k l)
+below_drop n l k h i p = rw (get_or-drop k l i 0) (h (k + i) (omega (arith, length-drop k l)))
 
 module _ (ds : List Float) where
   pub later : (x y : ℕ) (l : List ℕ) → is_nearer ds y x ≡ true → insert ds x (y ∷ l) ≡ y ∷ insert ds x l

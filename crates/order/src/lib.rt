@@ -22,16 +22,16 @@ fn insert_row(ds: &[f64], row: u32, out: &mut [u32])
     requires { (length ds.now ≤ 1024) × (row < length ds.now) × (1 ≤ length out.old) × (length out.old ≤ 1024) × Below (length ds.now) (drop 1 out.old) }
     ensures { out.new ≡ insert ds.now row (drop 1 out.old) }
 {
-    let mut hole = 0;
-    while hole + 1 < out.len() {
+    let last = out.len() - 1;
+    for hole in 0..last {
         let next = out[hole + 1];
         if !is_nearer(ds, next, row) {
-            break;
+            out[hole] = row;
+            return;
         }
         out[hole] = next;
-        hole += 1;
     }
-    out[hole] = row;
+    out[last] = row;
 }
 
 // The rows from lo on, as many as `out` has, by distance. From the last to the first, each is put into the order of those behind it.
@@ -39,9 +39,7 @@ fn sort_few(ds: &[f64], lo: usize, out: &mut [u32])
     requires { (length ds.now ≤ 1024) × (lo + length out.old ≤ length ds.now) }
     ensures { out.new ≡ ordered ds.now lo (length out.old) }
 {
-    let mut k = out.len();
-    while 0 < k {
-        k -= 1;
+    for k in (0..out.len()).rev() {
         insert_row(ds, (lo + k) as u32, &mut out[k..]);
     }
 }
@@ -55,14 +53,12 @@ struct Compared {
     second: bool,
 }
 
-// The first list's row at i and the second's at j. The compiler picks without a branch, which could not be foretold.
-fn compare(ds: &[f64], a: &[u32], i: usize, b: &[u32], j: usize) -> Compared
-    requires { Measured ds.now a.now × Measured ds.now b.now × (i < length a.now) × (j < length b.now) }
-    ensures second_value { result.second ≡ is_nearer ds.now (get_or b.now j 0) (get_or a.now i 0) }
-    ensures near_value { (result.near ≡ cond result.second (get_or b.now j 0) (get_or a.now i 0)) × (result.far ≡ cond result.second (get_or a.now i 0) (get_or b.now j 0)) }
+// Row x of the first list and row y of the second. The compiler picks without a branch, which could not be foretold.
+fn compare(ds: &[f64], x: u32, y: u32) -> Compared
+    requires { (length ds.now ≤ 1024) × (x < length ds.now) × (y < length ds.now) }
+    ensures second_value { result.second ≡ is_nearer ds.now y x }
+    ensures near_value { (result.near ≡ cond result.second y x) × (result.far ≡ cond result.second x y) }
 {
-    let x = a[i];
-    let y = b[j];
     if is_nearer(ds, y, x) {
         Compared {
             near: y,
@@ -78,15 +74,15 @@ fn compare(ds: &[f64], a: &[u32], i: usize, b: &[u32], j: usize) -> Compared
     }
 }
 
-// The first row of the merge of the first list from i on and the second from j on.
-fn next_row(ds: &[f64], a: &[u32], i: usize, b: &[u32], j: usize) -> u32
-    requires { Measured ds.now a.now × Measured ds.now b.now × (i ≤ length a.now) × (j < length b.now) }
-    ensures { result ≡ get_or (merged ds.now (drop i a.now) (drop j b.now)) 0 0 }
+// The first row of two lists' merge.
+fn first_row(ds: &[f64], a: &[u32], b: &[u32]) -> u32
+    requires { (length ds.now ≤ 1024) × Below (length ds.now) a.now × Below (length ds.now) b.now × (0 < length b.now) }
+    ensures { result ≡ get_or (merged ds.now a.now b.now) 0 0 }
 {
-    if i == a.len() {
-        return b[j];
+    if a.is_empty() {
+        return b[0];
     }
-    let compared = compare(ds, a, i, b, j);
+    let compared = compare(ds, a[0], b[0]);
     compared.near
 }
 
@@ -100,18 +96,18 @@ fn merge(ds: &[f64], a: &[u32], b: &[u32], out: &mut [u32])
     let mut taken = 0;
     let mut left = half;
     for k in 0..half {
-        let front = compare(ds, a, taken, b, k - taken);
+        let front = compare(ds, a[taken], b[k - taken]);
         out[k] = front.near;
         taken += !front.second as usize;
         let end = n - k;
-        let back = compare(ds, a, left - 1, b, end - left - 1);
+        let back = compare(ds, a[left - 1], b[end - left - 1]);
         out[end - 1] = back.far;
         left -= back.second as usize;
     }
     if n == 2 * half {
         return;
     }
-    out[half] = next_row(ds, a, taken, b, half - taken);
+    out[half] = first_row(ds, &a[taken..], &b[half - taken..]);
 }
 
 // The rows from lo on, as many as `out` has, by distance. The halves are put into `spare` in order, each with `out` to spare.
@@ -125,9 +121,11 @@ fn sort(ds: &[f64], lo: usize, out: &mut [u32], spare: &mut [u32])
         return;
     }
     let m = n / 2;
-    sort(ds, lo, &mut spare[0..m], &mut out[0..m]);
-    sort(ds, lo + m, &mut spare[m..], &mut out[m..]);
-    merge(ds, &spare[0..m], &spare[m..], out);
+    let (first, second) = spare.split_at_mut(m);
+    let (first_spare, second_spare) = out.split_at_mut(m);
+    sort(ds, lo, first, first_spare);
+    sort(ds, lo + m, second, second_spare);
+    merge(ds, first, second, out);
 }
 
 // All rows by distance, equal ones by lower index.
@@ -137,5 +135,5 @@ pub fn order_row(ds: &[f64], row: &mut [u32])
 {
     let mut spare: [u32; 1024] = [0; 1024];
     let n = row.len();
-    sort(ds, 0, row, &mut spare[0..n]);
+    sort(ds, 0, row, &mut spare[..n]);
 }

@@ -11,4 +11,5 @@ pub mod Quotient
 pub mod Pattern
 pub mod Digits
 pub mod Nearest
+pub mod Above
 pub mod Signs

@@ -1,17 +1,18 @@
 -- The nearest `f32` of what is not above zero: a NaN, a zero, and what is below zero. Assumes nothing.
-use Rattle.std.proofs.Common.{◌≡◌, zero, suc, ◌*◌, ◌^◌, Bool, true, false, not, ◌&&◌, T, ℤ, pos, negsuc, sym, refl, ap, subst, true≢false, zero-lt-suc, mul-pos, arith, eqb→eq, pow_pos, ltb-false, ltb-true, lt-ltb}
+use Rattle.std.proofs.Common.{◌≡◌, zero, suc, ◌*◌, ◌^◌, Bool, true, false, not, ◌&&◌, T, ℤ, pos, negsuc, refl, ap, true≢false, zero-lt-suc, mul-pos, arith, eqb→eq, pow_pos, ltb-false, ltb-true, lt-ltb}
 use mathlib.Core.Bool.{false≢true}
 use native.Mathlib.Nat.{pow-succ'}
-use lib.Ieee.{Float, nan, inf, fin, Format, binary32, up, down, round, neg, lt, ne, fits, is_nan}
+use lib.Ieee.{Float, nan, inf, fin, Format, binary32, up, down, round, neg, lt, fits, is_nan}
 use lib.Ieee.Fits.{up_pos}
-use lib.Ieee.Compare.{differs_from_itself}
 use Rattle.scope.specs.Floats.{+0}
 use Rattle.scope.specs.Rounding.{nearest_of, to_f32}
 use Rattle.scope.proofs.Negated.{neg_round}
 
-pub nearest_nan : (x : Float) → ne x x ≡ true → nan ≡ to_f32 x
-unfolding nearest_of
-nearest_nan x h = rw (differs_from_itself x (subst T (sym h) tt))
+pub nearest_nan : (x : Float) → is_nan x ≡ true → nan ≡ to_f32 x
+unfolding nearest_of is_nan
+nearest_nan nan h = refl
+nearest_nan (inf s) h = absurd (false≢true h)
+nearest_nan (fin s m e) h = absurd (false≢true h)
 
 -- ---- below zero: the negative of what the negative rounds to
 pub negative_above : (x : Float) → lt x +0 ≡ true → lt +0 (neg x) ≡ true
@@ -37,8 +38,8 @@ zero_exponent f s (pos (suc k)) t = absurd (omega (arith, eqb→eq (2 ^ suc k * 
 zero_exponent f s (negsuc k) t = absurd (omega (arith, eqb→eq (1 * 2 ^ suc k) 1 t, pow-succ' 2 k, pow_pos k))
 
 -- what is no NaN, and neither above zero nor below it
-pub is_zero : (f : Format) (x : Float) → T (fits f x) → ne x x ≡ false → lt +0 x ≡ false → lt x +0 ≡ false → (s : Bool) × (x ≡ fin s 0 (pos 0))
-unfolding lt ne
+pub is_zero : (f : Format) (x : Float) → T (fits f x) → is_nan x ≡ false → lt +0 x ≡ false → lt x +0 ≡ false → (s : Bool) × (x ≡ fin s 0 (pos 0))
+unfolding lt is_nan
 is_zero f nan t n a b = absurd (true≢false n)
 is_zero f (inf true) t n a b = absurd (true≢false b)
 is_zero f (inf false) t n a b = absurd (true≢false a)

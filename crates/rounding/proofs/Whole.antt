@@ -1,10 +1,10 @@
 -- Truncation and ceiling of a value in range: the greatest whole number that is not above it, and the least that is not below it, in either format. Assumes nothing.
-use Rattle.std.proofs.Common.{◌≡◌, ℕ, zero, suc, ◌+◌, ◌-◌, ◌*◌, ◌/◌, ◌^◌, ◌<◌, ◌≤◌, true, false, not, ◌&&◌, T, ltb, ◌↔◌, ℤ, pos, sym, refl, ap, ◌∙◌, subst, true≢false, le_trans, le_refl, le_of_suc-le-suc, zero-lt-suc, suc-mul, div-lt_iff_lt-mul, add-mul, mul-pos, le-div_iff_mul-le, zero-add, zero-mul, mul-one, le_of_mul-le-mul_right, arith, lt→ltb, ltb-false, ltb-true, le-ltb}
+use Rattle.std.proofs.Common.{◌≡◌, ℕ, zero, suc, ◌+◌, ◌-◌, ◌*◌, ◌/◌, ◌^◌, ◌<◌, ◌≤◌, true, false, not, T, ltb, ◌↔◌, ℤ, pos, sym, refl, ap, ◌∙◌, true≢false, le_trans, le_refl, le_of_suc-le-suc, zero-lt-suc, suc-mul, div-lt_iff_lt-mul, add-mul, mul-pos, le-div_iff_mul-le, zero-add, zero-mul, mul-one, le_of_mul-le-mul_right, arith, lt→ltb, ltb-false, ltb-true, le-ltb}
 use mathlib.Core.Logic.Iff
 use mathlib.Core.Bool.{false≢true}
 use native.Mathlib.Nat.{zero-div, div-eq_of_lt, lt-div-mul-add}
-use lib.Ieee.{Float, nan, inf, fin, Format, binary32, binary64, prec, up, down, round, lt, le, of_int, to_unsigned, is_nan, fits}
-use lib.Ieee.Fits.{up_pos, down_pos, and_i, fits_widens}
+use lib.Ieee.{Float, nan, inf, fin, Format, binary64, prec, up, down, round, lt, le, of_int, to_unsigned, is_nan}
+use lib.Ieee.Fits.{up_pos, down_pos}
 use lib.Ieee.Positive.{num, den, den_pos}
 use Rattle.scope.specs.Floats.{+0}
 use Rattle.scope.specs.Rounding.{truncation, ceiling, ceil_div}
@@ -39,10 +39,6 @@ no_nan : {x : Float} → Ranged x → T (not (is_nan x))
 unfolding is_nan
 no_nan (minus e) = tt
 no_nan (size m e r) = tt
-
--- an f32 in range is an f64
-pub widens : {x : Float} → Ranged x → fits binary32 x ≡ true → T (fits binary64 x && not (is_nan x))
-widens {x} r h = and_i (fits binary64 x) (not (is_nan x)) (fits_widens x (subst T (sym h) tt)) (no_nan r)
 
 -- what it gives is the truncation
 pub truncated : {x : Float} → Ranged x → (to_unsigned 64 x ≡ truncation x) × (truncation x < 4294967296)

@@ -5,43 +5,27 @@
 // narrow is narrow.rt: the nearest f32 of an f64 above zero, by bit patterns.
 mod narrow;
 
-ghost use Rattle.std.specs.Prelude.{◌≡◌, ◌≤◌};
+ghost use Rattle.std.specs.Prelude.{◌≡◌};
 ghost use Rattle.scope.specs.Rounding.{truncation, ceiling, to_f32, whole_root};
 ghost use Rattle.rounding.specs.Range.{in_range};
 
 use narrow::nearest_above;
 
-// x without its fraction.
-pub fn truncation_f64(x: f64) -> u64
+// x without its fraction. An f64 holds every f32: of one, pass `f64::from`.
+pub fn truncation(x: f64) -> u64
     requires { in_range x }
     ensures { result ≡ truncation x }
 {
     std::num::truncating_f64_to_u64(x)
 }
 
-// The least whole number that is not below x.
-pub fn ceiling_f64(x: f64) -> u64
+// The least whole number that is not below x. Of an f32 likewise.
+pub fn ceiling(x: f64) -> u64
     requires { in_range x }
     ensures { result ≡ ceiling x }
 {
-    let t = truncation_f64(x);
+    let t = truncation(x);
     if (t as f64) < x { t + 1 } else { t }
-}
-
-// x without its fraction. An f64 holds every f32.
-pub fn truncation_f32(x: f32) -> u64
-    requires { in_range x }
-    ensures { result ≡ truncation x }
-{
-    truncation_f64(x as f64)
-}
-
-// The least whole number that is not below x. An f64 holds every f32.
-pub fn ceiling_f32(x: f32) -> u64
-    requires { in_range x }
-    ensures { result ≡ ceiling x }
-{
-    ceiling_f64(x as f64)
 }
 
 // The f32 nearest to x, a tie to the one whose last digit is even. A NaN gives a NaN, a zero and an infinity keep
@@ -49,8 +33,8 @@ pub fn ceiling_f32(x: f32) -> u64
 pub fn nearest_f32(x: f64) -> f32
     ensures { result ≡ to_f32 x }
 {
-    if x != x {
-        return 0.0 / 0.0;
+    if x.is_nan() {
+        return f32::NAN;
     }
     if x > 0.0 {
         return nearest_above(x);
@@ -62,14 +46,9 @@ pub fn nearest_f32(x: f64) -> f32
     x as f32
 }
 
-// The greatest k with k * k at most l. A segment of the neighbours has 1,024 rows at most.
+// The greatest k with k * k at most l.
 pub fn whole_root(l: usize) -> usize
-    requires { l ≤ 1024 }
     ensures { result ≡ whole_root l }
 {
-    let mut k: usize = 0;
-    while (k + 1) * (k + 1) <= l {
-        k += 1;
-    }
-    k
+    l.isqrt()
 }

@@ -43,28 +43,21 @@ fn nearest_quotient(n: u64, d: u64) -> u64
     }
 }
 
-// How far a is above b; 0 if it is not.
-fn excess(a: u64, b: u64) -> u64
-    ensures { result ≡ a - b }
-{
-    if b < a { a - b } else { 0 }
-}
-
 // The f32 nearest to an x above zero, infinity included.
 pub fn nearest_above(x: f64) -> f32
     requires { lt +0 x ≡ true }
     ensures { result ≡ to_f32 x }
 {
-    let bits: u64 = f64::to_bits(x);
+    let bits = x.to_bits();
     let field = bits / F64_FIELD;
     let digits = F64_FIELD + bits % F64_FIELD;
     if field < VANISHING {
         return 0.0;
     }
-    let kept = nearest_quotient(digits, UNIT << excess(NORMAL, field));
-    let pattern = excess(field, NORMAL) * F32_FIELD + kept;
+    let kept = nearest_quotient(digits, UNIT << NORMAL.saturating_sub(field));
+    let pattern = field.saturating_sub(NORMAL) * F32_FIELD + kept;
     if pattern < INFINITY {
         return f32::from_bits(pattern as u32);
     }
-    1.0 / 0.0
+    f32::INFINITY
 }

@@ -1,12 +1,7 @@
--- What the loop of `layers_total` keeps.
-use mathlib.Core.Path.{◌≡◌}
-use Prim.Native.Nat.{◌-◌, ◌≤◌}
-use lib.ListN.{length, take}
+-- What the loop of `layers_total` keeps: the total is that of the layers passed.
+use Rattle.std.proofs.Common.{◌≡◌, take}
 use Rattle.scope.specs.Layers.{layers_total}
 use Rattle.layers.proofs.layers_total.Given as goal
 
-abbrev pub invariant-loop-i : goal.invariant-loop-i
-invariant-loop-i l = (l.i ≤ length l.layers) × (l.total ≡ layers_total (take l.i l.layers))
-
-abbrev pub decreases-loop-i : goal.decreases-loop-i
-decreases-loop-i l = length l.layers - l.i
+abbrev pub invariant-loop-value : goal.invariant-loop-value
+invariant-loop-value l = l.total ≡ layers_total (take l.value-index l.layers)

@@ -1,20 +1,17 @@
--- `classifier::order::insert_row` meets its contract. Before the hole stand rows that are nearer; those behind it are as they came. Assumes nothing.
+-- `order::insert_row` meets its contract. Before the hole stand rows that are nearer; those behind it are as they came. Assumes nothing.
 use mathlib.Core.Path.{◌≡◌, refl, sym, ap, ◌∙◌}
 use mathlib.Core.Bool.{true, false}
 use mathlib.Core.List.{List, [], ◌∷◌, ◌++◌, append_assoc}
-use Prim.Native.Nat.{ℕ, suc, ◌+◌, ◌≤◌, ◌<◌}
+use Prim.Native.Nat.{ℕ, suc, ◌+◌, ◌-◌, ◌≤◌, ◌<◌}
 use native.Mathlib.Numerals.{add-one}
 use native.Mathlib.Omega.{arith}
-use borrow.Author.Tests.{not-false}
 use lib.Ieee.{Float}
 use lib.ListN.{length, get_or, take, drop, set, length-set, drop_of_length-le}
 use lib.Seq.{drop-cons, set_split, take-suc-set, drop-set-lt}
 use Rattle.scope.specs.Neighbours.{is_nearer, insert}
 use Rattle.order.specs.Rows.{Below}
 use Rattle.order.proofs.Ordered.{later, here}
-use Rattle.std.proofs.Common.{not}
 use Rattle.order.proofs.insert_row.Goals as goal
-use Rattle.order.proofs.insert_row.Goals.{else-loop-hole-test, then-loop-hole-test+then-not-is_nearer}
 use Rattle.order.proofs.insert_row.Invariants.{State}
 
 module _ {ds : List Float} {row : ℕ} {out₀ out : List ℕ} {hole : ℕ} (s : State ds row out₀ out hole) where
@@ -51,23 +48,15 @@ pub loop-hole-init : goal.loop-hole-init
 loop-hole-init c = let p = c.requires in record { within = p.2; long = refl; rows = p.4; held = refl }
 
 pub is_nearer-requires : goal.is_nearer-requires
-is_nearer-requires c =
-    let p = c.requires in
-    let at = c.loop-hole in
-    (p.0, rows-from at.invariant c.loop-hole-test.true 0 (omega arith), p.1)
+is_nearer-requires c = (c.requires.0, rows-from c.loop-hole.invariant (omega arith) 0 (omega arith), c.requires.1)
 
 pub loop-hole-preserved : goal.loop-hole-preserved
-loop-hole-preserved c =
-    let at = c.loop-hole in
-    moved at.invariant c.loop-hole-test.true (sym c.is_nearer.ensures ∙ not-false _ (ap not c.if-not-is_nearer.false))
+loop-hole-preserved c = moved c.loop-hole.invariant (omega arith) (sym c.is_nearer.ensures ∙ c.if-not-is_nearer.false)
 
-pub shape_of-out : goal.shape_of-out
-shape_of-out c = simp length-set c.loop-hole.invariant.long
+pub returns-then-not-is_nearer : goal.returns-then-not-is_nearer
+returns-then-not-is_nearer c = placed-before c.loop-hole.invariant (omega arith) (sym c.is_nearer.ensures ∙ c.if-not-is_nearer.true)
 
 pub returns : goal.returns
 returns c =
-    let s = c.loop-hole.invariant in
-    elim c.loop-hole-test.branch [
-      | else-loop-hole-test w ↦ placed-last s w.loop-hole-test.false
-      | then-loop-hole-test+then-not-is_nearer w ↦ placed-before s w.loop-hole-test.true (sym w.is_nearer.ensures ∙ w.if-not-is_nearer.true)
-    ]
+    let end : length c.args.out.now - 1 ≡ c.loop-hole.hole = omega arith in
+    rw end (placed-last c.loop-hole.invariant (omega arith))

@@ -1,7 +1,7 @@
 -- What the loop of `insert_row` keeps.
 use mathlib.Core.Path.{◌≡◌}
 use mathlib.Core.List.{List, ◌++◌}
-use Prim.Native.Nat.{ℕ, ◌+◌, ◌-◌, ◌<◌}
+use Prim.Native.Nat.{ℕ, ◌+◌, ◌<◌}
 use lib.Ieee.{Float}
 use lib.ListN.{length, take, drop}
 use Rattle.scope.specs.Neighbours.{insert}
@@ -17,6 +17,3 @@ pub record State (ds : List Float) (row : ℕ) (out₀ out : List ℕ) (hole : �
 
 abbrev pub invariant-loop-hole : goal.invariant-loop-hole
 invariant-loop-hole l = State l.ds l.row l.initial.out l.out l.hole
-
-abbrev pub decreases-loop-hole : goal.decreases-loop-hole
-decreases-loop-hole l = length l.initial.out - l.hole

@@ -1,4 +1,4 @@
--- `classifier::order::merge` meets its contract. After k turns the first k rows and the last k of the merge are stored; what is between them
+-- `order::merge` meets its contract. After k turns the first k rows and the last k of the merge are stored; what is between them
 -- is the merge of what is left of both lists, whether one looks from the front or from the back. Assumes nothing.
 use mathlib.Core.Path.{◌≡◌, refl, sym, ap, ◌∙◌}
 use mathlib.Core.Bool.{Bool, true, false, cond, not}
@@ -13,6 +13,8 @@ use lib.ListN.{length, get_or, take, drop, set, length-set, length-drop, take-ap
 use lib.Seq.{drop-cons, drop-length, drop-drop, drop_at, take-length, take-suc-set, take-set-le, drop-set-lt, set_split, length-take-le, get_or-set_same}
 use Rattle.scope.specs.Neighbours.{is_nearer}
 use Rattle.order.specs.Rows.{merged, Halves}
+use Rattle.order.proofs.Parts.{rest_is}
+use Rattle.order.proofs.Ordered.{below_drop}
 use Rattle.order.proofs.Merging.{next_front, next_back, length_merged}
 use Rattle.order.proofs.merge.Goals as goal
 use Rattle.order.proofs.merge.Invariants.{State}
@@ -125,7 +127,7 @@ pub loop-k-init : goal.loop-k-init
 loop-k-init c = let p = c.requires in start p.0 p.1 refl
 
 pub compare-front-requires : goal.compare-front-requires
-compare-front-requires c = let p = c.requires in (p.0.first, p.0.second, omega arith, omega arith)
+compare-front-requires c = let p = c.requires.0 in (p.first.few, p.first.rows c.loop-k.taken (omega arith), p.second.rows _ (omega arith))
 
 pub overflow_add-taken : goal.overflow_add-taken
 overflow_add-taken c = omega (arith, bit (not c.compare-front.result.second))
@@ -134,7 +136,7 @@ pub overflow_sub-left-in-loop-k : goal.overflow_sub-left-in-loop-k
 overflow_sub-left-in-loop-k c = omega (arith, bit c.compare-back.result.second)
 
 pub compare-back-requires : goal.compare-back-requires
-compare-back-requires c = let p = c.requires in (p.0.first, p.0.second, omega arith, omega arith)
+compare-back-requires c = let p = c.requires.0 in (p.first.few, p.first.rows _ (omega arith), p.second.rows _ (omega arith))
 
 pub loop-k-preserved : goal.loop-k-preserved
 loop-k-preserved c =
@@ -153,8 +155,11 @@ returns-then-n-half c =
     let at = c.loop-k in
     finish-even p.0 p.1 at.invariant c.loop-k-test.false c.if-n-half.true
 
-pub next_row-requires : goal.next_row-requires
-next_row-requires c = let p = c.requires in (p.0.first, p.0.second, omega arith, omega arith)
+pub first_row-requires : goal.first_row-requires
+first_row-requires c =
+    let p = c.requires.0 in
+    rw (rest_is c.args.a.now c.loop-k.taken, rest_is c.args.b.now (length c.args.a.now - c.loop-k.taken))
+    (p.first.few, below_drop _ _ c.loop-k.taken p.first.rows, below_drop _ _ (length c.args.a.now - c.loop-k.taken) p.second.rows, omega (arith, length-drop (length c.args.a.now - c.loop-k.taken) c.args.b.now))
 
 pub shape_of-out : goal.shape_of-out
 shape_of-out c = simp length-set c.loop-k.invariant.long
@@ -163,4 +168,4 @@ pub returns : goal.returns
 returns c =
     let p = c.requires in
     let at = c.loop-k in
-    finish-odd p.0 p.1 at.invariant c.loop-k-test.false c.if-n-half.false c.next_row.ensures
+    finish-odd p.0 p.1 at.invariant c.loop-k-test.false c.if-n-half.false (rw (rest_is c.args.a.now c.loop-k.taken, rest_is c.args.b.now (length c.args.a.now - c.loop-k.taken)) at c.first_row.ensures)

@@ -18,6 +18,3 @@ pub record State (ds : List Float) (a b : List ℕ) (n : ℕ) (out : List ℕ) (
 
 abbrev pub invariant-loop-k : goal.invariant-loop-k
 invariant-loop-k l = State l.ds l.a l.b (length l.initial.out) l.out l.taken l.left l.k
-
-abbrev pub decreases-loop-k : goal.decreases-loop-k
-decreases-loop-k l = l.half - l.k

@@ -1,4 +1,4 @@
--- `classifier::order::sort_few` meets its contract. From place k on the rows are in order. Assumes nothing.
+-- `order::sort_few` meets its contract. From place k on the rows are in order. Assumes nothing.
 use mathlib.Core.Path.{◌≡◌, refl, ap, ◌∙◌}
 use mathlib.Core.List.{List}
 use Prim.Native.Nat.{ℕ, suc, ◌+◌, ◌-◌, ◌≤◌, ◌<◌}
@@ -51,15 +51,13 @@ loop-k-init c = start _ _ _
 
 pub insert_row-requires : goal.insert_row-requires
 insert_row-requires c =
-    let p = c.requires in
-    let at = c.loop-k in
-    let l = part at.invariant c.loop-k-test.true in
-    (p.0, omega (arith, at.invariant.within), omega (arith, l, at.invariant.within), omega (arith, l), rows at.invariant c.loop-k-test.true p.1)
+    let s = c.loop-k.invariant in
+    let more = c.loop-k-test.true in
+    let l = part s more in
+    (c.requires.0, omega (arith, s.within), omega (arith, l, s.within), omega (arith, l), rows s more c.requires.1)
 
 pub loop-k-preserved : goal.loop-k-preserved
-loop-k-preserved c =
-    let at = c.loop-k in
-    next at.invariant c.loop-k-test.true c.insert_row.ensures
+loop-k-preserved c = next c.loop-k.invariant c.loop-k-test.true c.insert_row.ensures
 
 pub returns : goal.returns
 returns c = finish c.loop-k.invariant c.loop-k-test.false

@@ -14,6 +14,3 @@ pub record State (ds : List Float) (lo : ℕ) (out₀ out : List ℕ) (k : ℕ) 
 
 abbrev pub invariant-loop-k : goal.invariant-loop-k
 invariant-loop-k l = State l.ds l.lo l.initial.out l.out l.k
-
-abbrev pub decreases-loop-k : goal.decreases-loop-k
-decreases-loop-k l = l.k

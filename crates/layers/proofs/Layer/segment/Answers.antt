@@ -9,15 +9,15 @@ use Rattle.layers.proofs.Layer.segment.Goals as goal
 pub stop-stop-requires : goal.stop-stop-requires
 stop-stop-requires c =
     let s = c.args in
-    let made = c.requires.0 in
+    let made = s.self.made in
     let counted : s.id < layer_count s.self.value = omega (arith, made.counted) in
-    (made, omega (arith, c.start-start.ensures, layer_start_most s.self.value made.is_layer_lem s.self.n made.rows s.id counted))
+    omega (arith, c.start-start.ensures, layer_start_most s.self.value made.is_layer_lem s.self.n made.rows s.id counted)
 
 pub returns : goal.returns
 unfolding layer_stop
 returns c =
     let s = c.args in
-    let made = c.requires.0 in
+    let made = s.self.made in
     let counted : s.id < layer_count s.self.value = omega (arith, made.counted) in
     let inside = layer_inside s.self.value made.is_layer_lem s.self.n made.rows s.id counted in
     let start = c.start-start.ensures in

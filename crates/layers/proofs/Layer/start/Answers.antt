@@ -13,22 +13,22 @@ use Rattle.layers.proofs.Layer.start.Goals as goal
 
 pub returns-then-self-eq1 : goal.returns-then-self-eq1
 unfolding layer_start
-returns-then-self-eq1 c = rw (eq-eqb (layer_count c.args.self.value) 1 (sym c.requires.0.counted ∙ c.if-self-eq1.true))
+returns-then-self-eq1 c = rw (eq-eqb (layer_count c.args.self.value) 1 (sym c.args.self.made.counted ∙ c.if-self-eq1.true))
 
 pub int_to_float-id : goal.int_to_float-id
 int_to_float-id c =
-    let l = c.requires.0 in
+    let l = c.args.self.made in
     held c.args.id (omega (arith, l.counted, layer_count_bounds c.args.self.value l.is_layer_lem))
 
 pub truncated-requires : goal.truncated-requires
 truncated-requires c =
-    let l = c.requires.0 in
+    let l = c.args.self.made in
     subst (λ (x : Float). in_range (to_f32 (whole c.args.id ⊗ x))) (sym l.stepped)
     (layer_start_range c.args.self.value l.is_layer_lem c.args.self.n l.rows (λ e. c.if-self-eq1.false (l.counted ∙ e)) c.args.id (omega (arith, l.counted)))
 
 pub returns : goal.returns
 unfolding layer_start
 returns c =
-    let l = c.requires.0 in
+    let l = c.args.self.made in
     rw (ne_eqb (layer_count c.args.self.value) 1 (λ e. c.if-self-eq1.false (l.counted ∙ e)))
     (c.truncated.ensures ∙ ap (λ (x : Float). truncation (to_f32 (whole c.args.id ⊗ x))) l.stepped)

@@ -5,5 +5,5 @@ use Rattle.layers.proofs.Layer.stop.Goals as goal
 
 pub position_from-stop-requires : goal.position_from-stop-requires
 position_from-stop-requires c =
-    let l = c.requires.0 in
+    let l = c.args.self.made in
     omega (arith, l.long, layer_length_ceiling c.args.self.value l.is_layer_lem c.args.self.n l.rows)

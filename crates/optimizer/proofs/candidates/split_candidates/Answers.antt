@@ -1,36 +1,24 @@
--- `split_candidates` meets its contract: after k rows the candidates among them stand at the front.
-use mathlib.Core.Path.{◌≡◌, sym, ◌∙◌}
-use Prim.Native.Nat.{◌+◌}
-use native.Mathlib.Omega.{arith}
-use Rattle.scope.specs.Candidates.{range_size}
-use Rattle.scope.proofs.Candidates.{one_at_most}
-use Rattle.optimizer.proofs.Walk.{begins, passed, stored, walked_all}
+-- `split_candidates` meets its contract: each candidate that comes is stored behind those before it.
+use Rattle.std.proofs.Common.{map, arith, append_assoc, length-append}
+use Rattle.std.proofs.lemmas.List.{map-append}
 use Rattle.control.specs.Settings.{shortest_of}
+use Rattle.optimizer.specs.Left.{row_of, rows_left}
+use Rattle.optimizer.proofs.Left.{candidates_few, place_left, stored_next}
 use Rattle.optimizer.proofs.candidates.split_candidates.Goals as goal
-use Rattle.optimizer.proofs.candidates.split_candidates.Goals.{then-not-is_barred, else-not-is_barred}
 
-pub loop-k-init : goal.loop-k-init
-loop-k-init c = begins _ _ _ _
+pub bounds-rows-count : goal.bounds-rows-count
+bounds-rows-count c =
+    let i = c.loop-row.invariant in
+    let few = candidates_few (shortest_of c.args.allowed.shortest) c.args.allowed.forbidden.now c.args.segment.start.0 c.args.segment.stop.0 in
+    place_left (map row_of c.loop-row.yielded) (rows_left c.loop-row.row-iterator) _ _ c.loop-row.count _ _ i.2 i.3 c.in-Some.ensures.steps (omega arith)
 
-pub range_row-row-requires : goal.range_row-row-requires
-unfolding range_size
-range_row-row-requires c = (omega arith, omega arith, omega (arith, one_at_most (shortest_of c.args.shortest)))
-
-pub loop-k-preserved : goal.loop-k-preserved
-loop-k-preserved c =
-    let s = c.args in
-    let at = c.loop-k in
-    let b = c.is_barred in
-    let row = c.range_row-row.ensures in
-    elim c.if-not-is_barred.branch [
-      | then-not-is_barred w ↦ rw (w.rows-is, w.count-is, row) (stored s.forbidden.now (s.start.0 + s.shortest.m) c.range_size-size.result s.rows.now at.rows at.count at.k (omega arith) at.invariant (omega arith) (rw row at (sym b.ensures ∙ w.if-not-is_barred.true)))
-      | else-not-is_barred w ↦ rw (w.rows-is, w.count-is) (passed s.forbidden.now (s.start.0 + s.shortest.m) c.range_size-size.result s.rows.now at.rows at.count at.k (omega arith) at.invariant (rw row at (sym b.ensures ∙ w.if-not-is_barred.false)))
-    ]
-
-pub returns : goal.returns
-returns c =
-    let s = c.args in
-    let i = c.loop-k.invariant in
-    let e : c.loop-k.k ≡ c.range_size-size.result = omega arith in
-    let all = walked_all (shortest_of s.shortest) s.forbidden.now s.start.0 s.stop.0 in
-    record { count = rw (← all, ← c.range_size-size.ensures, ← e) i.told; rows = rw (← all, ← c.range_size-size.ensures, ← e) i.held }
+pub loop-row-preserved : goal.loop-row-preserved
+loop-row-preserved c =
+    let i = c.loop-row.invariant in
+    let left = c.in-Some.ensures.steps in (
+      tt,
+      tt,
+      rw (map-append, length-append) (omega (arith, i.2)),
+      rw (map-append, append_assoc) (rw left at i.3),
+      rw map-append (stored_next (map row_of c.loop-row.yielded) c.args.rows.now c.loop-row.rows c.loop-row.count c.in-Some.row.0 i.2 i.4 (let room = bounds-rows-count c in omega arith)),
+    )
