@@ -32,6 +32,7 @@ fn run_refusal(state: State, settings: Settings) -> Result<(), Refusal>
 }
 
 // What the later sheet of a fed run is refused for.
+#[tactic(auto, unfolding(scope::specs::Feed::fed_refusal))]
 pub fn refusal(state: State, settings: Settings, room: Room) -> Result<(), Refusal>
     ensures { number_in result ≡ fed_refusal (state_of state) (settings_of settings.entry) (room_of room) }
 {

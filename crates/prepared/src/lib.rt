@@ -69,6 +69,7 @@ pub fn room_refusal(
 }
 
 // What a call for the tree is refused for.
+#[tactic(auto, unfolding(scope::specs::Calls::tree_refusal))]
 pub fn tree_refusal(matrix: Matrix, settings: Settings, room: Room) -> Result<(), Refusal>
     ensures { number_in result ≡ tree_refusal (record { matrix = matrix_of matrix.entry; settings = settings_of settings.entry; room = room_of room }) }
 {
