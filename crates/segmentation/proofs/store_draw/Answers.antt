@@ -1,6 +1,6 @@
 -- `store_draw` meets its contract: a draw that is passed over leaves no record, and any other what its search leaves.
-use Rattle.std.proofs.Common.{◌≡◌, sym, ◌∙◌, ap, arith, true, false, not}
-use borrow.Author.Tests.{ltb-true, not-true, not-false}
+use Rattle.std.proofs.Common.{sym, ◌∙◌, ap, not}
+use borrow.Author.Tests.{not-true, not-false}
 use Rattle.stored.proofs.Flat.{put_none}
 use Rattle.segmentation.proofs.store_draw.Goals as goal
 

@@ -29,7 +29,7 @@ loop-id-preserved c =
     let l = c.loop-id in
     let segment = c.segment.ensures in
     rw (layer_next (search_over a.gain a.allowed) a.layer.n a.layer.value (of_layer a.number) l.id, ← segment.0, ← segment.1)
-        (put_more l.invariant c.store_segment-next.ensures)
+    (put_more l.invariant c.store_segment-next.ensures)
 
 pub returns : goal.returns
 returns c = let all : c.loop-id.id ≡ c.args.layer.count = omega arith in rw (← all) c.loop-id.invariant

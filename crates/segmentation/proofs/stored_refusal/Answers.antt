@@ -11,7 +11,7 @@ returns-in_err-source_refusal c =
     let s = c.args in
     let r = c.in_err-source_refusal.field-0.0 in
     let is : number_of r ≡ stored_refusal (record { matrix = matrix_of s.matrix; shortest = shortest_of s.allowed.shortest; forbidden = s.allowed.forbidden.now; source = source_of s.source; sums = s.sums; records = s.records }) =
-        by_source _ r c.in_ok-sizes_refusal.ensures c.in_ok-values_refusal.ensures c.in_err-source_refusal.ensures in
+    by_source _ r c.in_ok-sizes_refusal.ensures c.in_ok-values_refusal.ensures c.in_err-source_refusal.ensures in
     search rules
 
 pub sums_len-requires : goal.sums_len-requires
