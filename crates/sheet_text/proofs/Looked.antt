@@ -1,5 +1,5 @@
 -- The first record at a row, looked for record by record; and the lines, row by row. Assumes nothing.
-use mathlib.Core.Path.{◌≡◌, refl, sym, ◌∙◌, ap}
+use mathlib.Core.Path.{◌≡◌, refl, sym, ◌∙◌}
 use mathlib.Core.List.{List, [], ◌∷◌, ◌++◌, append-nil, append_assoc}
 use Prim.Native.Nat.{ℕ, ◌+◌, ◌≤◌, ◌<◌}
 use native.Mathlib.Numerals.{add-one}
@@ -14,7 +14,7 @@ use Rattle.stored.specs.Flat.{record_at}
 use Rattle.stored.specs.Records.{records_of}
 use Rattle.stored.specs.declared.records.Records.{Records}
 use Rattle.stored.proofs.Chosen.{left, left_all, left_none, left_next}
-use Rattle.report.specs.Written.{Written, Put}
+use Rattle.report.specs.Written.{Put}
 use Rattle.report.specs.declared.Page.{Page}
 use Rattle.sheet_text.specs.Lines.{first_at, line_of, lines_of}
 
