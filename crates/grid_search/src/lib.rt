@@ -3,106 +3,64 @@
 
 ghost use Rattle.std.specs.Prelude.{◌≡◌, ◌+◌, ◌*◌, ◌≤◌, length};
 ghost use Rattle.scope.specs.Gain.{gain_of};
-ghost use Rattle.scope.specs.Grid.{best, blank, trials};
 ghost use Rattle.scope.specs.Calls.{search_refusal};
-ghost use Rattle.control.specs.Settings.{shortest_of};
-ghost use Rattle.optimizer.specs.Records.{to_record, best_split_of, searched_of, split_found, searched};
+ghost use Rattle.control.specs.Refused.{number_in, told};
+ghost use Rattle.control.specs.Settings.{matrix_of, shortest_of};
+ghost use Rattle.optimizer.specs.Records.{to_record, best_split_told, split_found, searched};
 
-use control::Shortest;
+use change_in_mean::ChangeInMean;
+use control::{Allowed, Matrix, Refusal};
 use optimizer::candidates;
-use optimizer::optimizer_result::{BestSplit, GainRecord, Searched};
-use rows::Position;
+use optimizer::gain::greatest;
+use optimizer::optimizer_result::{BestSplit, GainRecord};
+use rows::Segment;
 
-// The record of the greatest gain among the candidates, the first if several are equal.
-fn greatest(
-    sums: &[f64],
-    d: usize,
-    shortest: Shortest,
-    forbidden: &[usize],
-    start: Position,
-    stop: Position,
-) -> GainRecord
-    requires start_le_stop { (start.0 ≤ stop.0) × (stop.0 ≤ 4096) × (shortest.m ≤ 4096) }
-    requires d_in_bounds { (stop.0 + 1) * d ≤ length sums.now }
-    ensures { to_record result ≡ best (blank start.0 stop.0) (trials (gain_of sums.now d) (shortest_of shortest) forbidden.now start.0 stop.0) }
-{
-    let size = candidates::range_size(shortest, start, stop);
-    let mut record = GainRecord::blank(start, stop);
-    let mut k = 0;
-    while k < size {
-        let split = candidates::range_row(shortest, start, k);
-        if !candidates::is_barred(forbidden, split) {
-            record = record.better(split, change_in_mean::gain(sums, d, start, stop, split));
-        }
-        k += 1;
-    }
-    record
-}
-
-// The record of the best split of [start, stop), or refusal 9 or 10: what the tree and the stored records take over.
+// The record of the best split of a segment, or refusal 9 or 10: what the tree and the stored records take over.
+#[tactic(auto, using(scope::proofs::Candidates::nine_from), unfolding(optimizer::specs::Records::searched))]
 pub fn search_segment(
-    sums: &[f64],
-    d: usize,
-    shortest: Shortest,
-    forbidden: &[usize],
-    start: Position,
-    stop: Position,
-) -> Searched
-    requires start_le_stop { (start.0 ≤ stop.0) × (stop.0 ≤ 4096) × (shortest.m ≤ 4096) }
-    requires d_in_bounds { (stop.0 + 1) * d ≤ length sums.now }
-    ensures { result ≡ searched_of (searched (gain_of sums.now d) (shortest_of shortest) forbidden.now start.0 stop.0) }
+    gain: ChangeInMean,
+    allowed: Allowed,
+    segment: Segment,
+) -> Result<GainRecord, Refusal>
+    requires start_le_stop { (segment.start.0 ≤ segment.stop.0) × (segment.stop.0 ≤ 4096) × (allowed.shortest.m ≤ 4096) }
+    requires d_in_bounds { (segment.stop.0 + 1) * gain.d ≤ length gain.sums.now }
+    ensures { told to_record result ≡ searched (gain_of gain.entry.sums.now gain.entry.d) (shortest_of allowed.entry.shortest) allowed.entry.forbidden.now segment.start.0 segment.stop.0 }
 {
-    if shortest.too_long_for(stop.0 - start.0) {
-        return Searched::Refused(9);
+    if allowed.shortest.too_long_for(segment.length()) {
+        return Err(Refusal::TooShort);
     }
-    if candidates::all_barred(forbidden, shortest, start, stop) {
-        return Searched::Refused(10);
+    if candidates::all_barred(allowed, segment) {
+        return Err(Refusal::AllBarred);
     }
-    Searched::Record(greatest(sums, d, shortest, forbidden, start, stop))
+    Ok(greatest(&gain, allowed, segment, GainRecord::blank(segment)))
 }
 
-// The best split of [start, stop) and its gain, or refusal 9 or 10.
-pub fn find_best_split(
-    sums: &[f64],
-    d: usize,
-    shortest: Shortest,
-    forbidden: &[usize],
-    start: Position,
-    stop: Position,
-) -> BestSplit
-    requires start_le_stop { (start.0 ≤ stop.0) × (stop.0 ≤ 4096) × (shortest.m ≤ 4096) }
-    requires d_in_bounds { (stop.0 + 1) * d ≤ length sums.now }
-    ensures { result ≡ best_split_of (split_found (searched (gain_of sums.now d) (shortest_of shortest) forbidden.now start.0 stop.0)) }
+// The best split of a segment and its gain, or refusal 9 or 10.
+pub fn find_best_split(gain: ChangeInMean, allowed: Allowed, segment: Segment) -> BestSplit
+    requires start_le_stop { (segment.start.0 ≤ segment.stop.0) × (segment.stop.0 ≤ 4096) × (allowed.shortest.m ≤ 4096) }
+    requires d_in_bounds { (segment.stop.0 + 1) * gain.d ≤ length gain.sums.now }
+    ensures { best_split_told result ≡ split_found (searched (gain_of gain.entry.sums.now gain.entry.d) (shortest_of allowed.entry.shortest) allowed.entry.forbidden.now segment.start.0 segment.stop.0) }
 {
-    match search_segment(sums, d, shortest, forbidden, start, stop) {
-        Searched::Record(found) => found.best(),
-        Searched::Refused(no) => BestSplit::Refused(no),
+    match search_segment(gain, allowed, segment) {
+        Ok(found) => found.best(),
+        Err(refusal) => BestSplit::Refused(refusal),
     }
 }
 
-// The number that applies to a call for a search, or 0.
+// The refusal that applies to a call for a search.
+#[tactic(auto, unfolding(scope::specs::Calls::search_refusal))]
 pub fn search_refusal(
-    cells: &[f64],
-    n: usize,
-    d: usize,
-    shortest: Shortest,
-    forbidden: &[usize],
-    start: Position,
-    stop: Position,
+    matrix: Matrix,
+    allowed: Allowed,
+    segment: Segment,
     room: usize,
-) -> u32
-    ensures { result ≡ search_refusal (record { matrix = record { cells = cells.now; n = n; d = d }; shortest = shortest_of shortest; forbidden = forbidden.now; start = start.0; stop = stop.0; room = room }) }
+) -> Result<(), Refusal>
+    ensures { number_in result ≡ search_refusal (record { matrix = matrix_of matrix.entry; shortest = shortest_of allowed.entry.shortest; forbidden = allowed.entry.forbidden.now; start = segment.start.0; stop = segment.stop.0; room = room }) }
 {
-    let sizes = control::sizes_refusal(cells, n, d, shortest);
-    if sizes != 0 {
-        return sizes;
+    control::sizes_refusal(matrix, allowed.shortest)?;
+    control::values_refusal(matrix.cells, allowed.forbidden)?;
+    if room < control::sums_len(matrix.n, matrix.d) {
+        return Err(Refusal::Room);
     }
-    let values = control::values_refusal(cells, forbidden);
-    if values != 0 {
-        return values;
-    }
-    if room < control::sums_len(n, d) {
-        return 7;
-    }
-    candidates::segment_refusal(n, shortest, forbidden, start, stop)
+    candidates::segment_refusal(matrix.n, allowed, segment)
 }

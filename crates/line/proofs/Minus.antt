@@ -1,5 +1,5 @@
 -- A cell with a minus: the float of its magnitude, negated, is its float. Assumes nothing.
-use Rattle.std.proofs.Common.{◌≡◌, ℕ, zero, suc, true, not, ltb, leb, pos, negsuc, refl, le-ltb, lt-ltb, leb-false, leb-true}
+use Rattle.std.proofs.Common.{◌≡◌, ◌<◌, arith, ℕ, zero, suc, true, not, ltb, leb, pos, negsuc, le-ltb, lt-ltb, leb-false, leb-true}
 use mathlib.Core.Option.{some}
 use lib.Dec.{leb-suc-suc}
 use lib.Ieee.{Format, binary64, neg, of_int}
@@ -17,6 +17,6 @@ negated f n = neg_round f true (suc n) 1
 pub above : (n v : ℕ) → ltb n v ≡ not (leb v n)
 above n v = either (leb v n) (λ t. rw t (le-ltb n v (leb-true v n t))) (λ t. rw t (lt-ltb n v (leb-false v n t)))
 
-pub minus_cell : (k : ℕ) (g : Given) (v : ℕ) → (v ≡ 0 → ⊥) → cell_at k g (ltb 32768 v) (neg (of_int binary64 (pos v))) ≡ cell_end k g (negative (some v))
-minus_cell k g zero h = absurd (h refl)
+pub minus_cell : (k : ℕ) (g : Given) (v : ℕ) → 0 < v → cell_at k g (ltb 32768 v) (neg (of_int binary64 (pos v))) ≡ cell_end k g (negative (some v))
+minus_cell k g zero h = absurd (omega arith)
 minus_cell k g (suc v) h = rw (leb-suc-suc 32768 v, above 32767 v, negated binary64 v)

@@ -1,8 +1,9 @@
 -- A line field by field: what the code keeps of it.
-use Rattle.std.specs.Prelude.{ℕ, ◌+◌, ◌*◌, Bool, false, cond, not, ◌||◌, List, ℤ, nat_le, nat_lt, slice_set, Float}
+use Rattle.std.specs.Prelude.{ℕ, ◌+◌, ◌*◌, Bool, true, false, cond, not, ◌||◌, List, ℤ, nat_le, nat_lt, slice_set, Float}
 use Rattle.std.proofs.Math.Option.{Option, none, some}
 use Rattle.std.specs.Float.Ieee.{of_int}
 use Rattle.std.specs.Float.{binary64}
+use Rattle.scope.specs.Text.{positive, negative}
 use Rattle.scope.specs.Program.{is_reading}
 use Rattle.token.specs.declared.Token.{Token}
 use Rattle.token.specs.declared.Word.{Word}
@@ -74,6 +75,11 @@ cell_at k g w x = record { place = Cells (k + 1); given = with_cell g w; event =
 abbrev pub cell_end : ℕ → Given → Option ℤ → Ended
 cell_end k g none = malformed g
 cell_end k g (some z) = cell_at k g (not (is_reading z)) (of_int binary64 z)
+
+-- what digits behind a minus, or not, are
+abbrev pub signed : Bool → Option ℕ → Option ℤ
+signed true o = negative o
+signed false o = positive o
 
 -- "a `row` has 1 to 64 cells"
 abbrev pub cell_after : ℕ → Given → Option ℤ → Ended

@@ -2,14 +2,12 @@
 // Inside the library. A function follows its definition of specs/Walk.antt; proofs/ shows that a line comes to what the definitions read in it.
 #![tactic(auto)]
 
-ghost use Rattle.std.specs.Prelude.{◌≡◌, ◌<◌, slice_set};
-ghost use Rattle.token.specs.Walk.{as_plain, as_number, as_cell, as_bits};
-ghost use Rattle.token.specs.declared.Hex.{Hex};
-ghost use Rattle.line.specs.Walk.{up_to, onward as Walk·onward, malformed as Walk·malformed, place_of, number_at, number_end, bits_end, cell_at, cell_end, cell_after, ended, reads, stored_cell, stored_pair, stored_cells, stored_forbidden};
-ghost use Rattle.std.proofs.Math.Option.{some};
-ghost use Rattle.scope.specs.Text.{positive, negative};
+ghost use Rattle.std.specs.Prelude.{◌≡◌, ◌<◌, Bool, slice_set};
+ghost use Rattle.token.specs.Walk.{option_of, as_number, as_cell};
+ghost use Rattle.line.specs.Walk.{up_to, nothing, onward as Walk·onward, malformed as Walk·malformed, place_of, number_at, number_end, bits_end, cell_at, cell_end, signed, ended, reads, stored_cell, stored_pair, stored_cells, stored_forbidden};
 
-use token::{Cell, Digits, Hex, Token, Word};
+use std::num::nearest_usize_to_f64;
+use token::{Cell, Digits, Token, Word};
 
 // So many cells and pairs are kept, and one more is counted.
 pub const MOST_CELLS: usize = 2048;
@@ -27,7 +25,7 @@ pub const BARRED: usize = 2 * MOST_PAIRS;
 const MOST_IN_ROW: usize = 64;
 
 // A number of a `cfg` or a `no` line. The second of a pair comes after a.
-#[derive(Clone, Copy)]
+#[derive(Clone, Copy, Debug, PartialEq, Eq)]
 pub enum Number {
     N,
     D,
@@ -37,7 +35,7 @@ pub enum Number {
 }
 
 // What comes next in a line.
-#[derive(Clone, Copy)]
+#[derive(Clone, Copy, Debug, PartialEq, Eq)]
 pub enum Place {
     Word,
     Number(Number),
@@ -54,7 +52,7 @@ pub enum Place {
 }
 
 // What the lines so far have given. The pairs are counted up to 65 and the cells up to 2,049; wide says whether a cell is outside -32768 to 32767.
-#[derive(Clone, Copy)]
+#[derive(Clone, Copy, Debug, PartialEq, Eq)]
 pub struct Given {
     pub n: usize,
     pub d: usize,
@@ -65,8 +63,25 @@ pub struct Given {
     pub wide: bool,
 }
 
+impl Given {
+    // Before the first line.
+    pub fn nothing() -> Given
+        ensures { result ≡ nothing }
+    {
+        Given {
+            n: 0,
+            d: 0,
+            m: 0,
+            threshold: 0,
+            pairs: 0,
+            cells: 0,
+            wide: false,
+        }
+    }
+}
+
 // What a field gives to the lent slices: a cell, or a pair a and b, after so many others.
-#[derive(Clone, Copy)]
+#[derive(Clone, Copy, Debug, PartialEq)]
 pub enum Event {
     Nothing,
     Cell(usize, f64),
@@ -74,7 +89,7 @@ pub enum Event {
 }
 
 // After a field.
-#[derive(Clone, Copy)]
+#[derive(Clone, Copy, Debug, PartialEq)]
 pub struct Ended {
     pub place: Place,
     pub given: Given,
@@ -85,10 +100,7 @@ pub struct Ended {
 pub fn up_to(top: usize, k: usize) -> usize
     ensures { result ≡ up_to top k }
 {
-    if k < top {
-        return k + 1;
-    }
-    k
+    if k < top { k + 1 } else { k }
 }
 
 fn onward(place: Place, given: Given) -> Ended
@@ -107,10 +119,10 @@ fn malformed(given: Given) -> Ended
     onward(Place::Malformed, given)
 }
 
-fn place_of(w: Word) -> Place
-    ensures { result ≡ place_of w }
+fn place_of(word: Word) -> Place
+    ensures { result ≡ place_of word }
 {
-    match w {
+    match word {
         Word::Cfg => Place::Number(Number::N),
         Word::No => Place::Number(Number::A),
         Word::Row => Place::Row,
@@ -118,73 +130,40 @@ fn place_of(w: Word) -> Place
     }
 }
 
-// The digits of a field that has no minus.
-fn plain(c: Cell) -> Digits
-    ensures { result ≡ as_plain c }
-{
-    match c {
-        Cell::Empty => Digits::Empty,
-        Cell::Plain(g) => g,
-        Cell::Minus(_) => Digits::Wrong,
-    }
-}
-
 fn number_at(number: Number, given: Given, v: usize) -> Ended
     ensures { result ≡ number_at number given v }
 {
-    let mut next = given;
     match number {
-        Number::N => {
-            next.n = v;
-            onward(Place::Number(Number::D), next)
-        }
-        Number::D => {
-            next.d = v;
-            onward(Place::Number(Number::M), next)
-        }
-        Number::M => {
-            next.m = v;
-            onward(Place::Threshold, next)
-        }
-        Number::A => onward(Place::Number(Number::B(v)), next),
-        Number::B(a) => {
-            next.pairs = up_to(PAIRS_COUNTED, given.pairs);
-            Ended {
-                place: Place::No,
-                given: next,
-                event: Event::Pair(given.pairs, a, v),
-            }
-        }
+        Number::N => onward(Place::Number(Number::D), Given { n: v, ..given }),
+        Number::D => onward(Place::Number(Number::M), Given { d: v, ..given }),
+        Number::M => onward(Place::Threshold, Given { m: v, ..given }),
+        Number::A => onward(Place::Number(Number::B(v)), given),
+        Number::B(a) => Ended {
+            place: Place::No,
+            given: Given {
+                pairs: up_to(PAIRS_COUNTED, given.pairs),
+                ..given
+            },
+            event: Event::Pair(given.pairs, a, v),
+        },
     }
 }
 
-fn number_end(number: Number, given: Given, digits: Digits) -> Ended
-    ensures { result ≡ number_end number given (as_number digits) }
+fn number_end(number: Number, given: Given, v: Option<usize>) -> Ended
+    ensures { result ≡ number_end number given (option_of v) }
 {
-    match digits {
-        Digits::Empty => malformed(given),
-        Digits::Value(v) => number_at(number, given, v),
-        Digits::Wrong => malformed(given),
+    match v {
+        Some(v) => number_at(number, given, v),
+        None => malformed(given),
     }
 }
 
-fn bits_at(given: Given, k: u64, bits: u64) -> Ended
-    ensures { result ≡ bits_end given (as_bits (Hex.Places k bits)) }
+fn bits_end(given: Given, bits: Option<u64>) -> Ended
+    ensures { result ≡ bits_end given (option_of bits) }
 {
-    if k != 16 {
-        return malformed(given);
-    }
-    let mut next = given;
-    next.threshold = bits;
-    onward(Place::Cfg, next)
-}
-
-fn bits_end(given: Given, hex: Hex) -> Ended
-    ensures { result ≡ bits_end given (as_bits hex) }
-{
-    match hex {
-        Hex::Places(k, bits) => bits_at(given, k, bits),
-        Hex::Wrong => malformed(given),
+    match bits {
+        Some(threshold) => onward(Place::Cfg, Given { threshold, ..given }),
+        None => malformed(given),
     }
 }
 
@@ -193,45 +172,26 @@ fn cell_at(k: usize, given: Given, wide: bool, value: f64) -> Ended
     requires { k < 64 }
     ensures { result ≡ cell_at k given wide value }
 {
-    let mut next = given;
-    next.cells = up_to(CELLS_COUNTED, given.cells);
-    next.wide = given.wide | wide;
     Ended {
         place: Place::Cells(k + 1),
-        given: next,
+        given: Given {
+            cells: up_to(CELLS_COUNTED, given.cells),
+            wide: given.wide | wide,
+            ..given
+        },
         event: Event::Cell(given.cells, value),
     }
 }
 
-fn plain_end(k: usize, given: Given, digits: Digits) -> Ended
+// The same of a cell's digits, behind a minus or not. A minus is only on a cell that isn't 0.
+fn signed_end(k: usize, given: Given, minus: bool, digits: Digits) -> Ended
     requires { k < 64 }
-    ensures { result ≡ cell_end k given (positive (as_number digits)) }
+    ensures { result ≡ cell_end k given (signed minus (as_number digits)) }
 {
-    match digits {
-        Digits::Empty => malformed(given),
-        Digits::Value(v) => cell_at(k, given, 32767 < v, std::num::nearest_u64_to_f64(v as u64)),
-        Digits::Wrong => malformed(given),
-    }
-}
-
-fn minus_at(k: usize, given: Given, v: usize) -> Ended
-    requires { k < 64 }
-    ensures { result ≡ cell_end k given (negative (some v)) }
-{
-    if v == 0 {
-        return malformed(given);
-    }
-    cell_at(k, given, 32768 < v, -std::num::nearest_u64_to_f64(v as u64))
-}
-
-fn minus_end(k: usize, given: Given, digits: Digits) -> Ended
-    requires { k < 64 }
-    ensures { result ≡ cell_end k given (negative (as_number digits)) }
-{
-    match digits {
-        Digits::Empty => malformed(given),
-        Digits::Value(v) => minus_at(k, given, v),
-        Digits::Wrong => malformed(given),
+    match digits.value() {
+        Some(v) if !minus => cell_at(k, given, 32767 < v, nearest_usize_to_f64(v)),
+        Some(v) if v > 0 => cell_at(k, given, 32768 < v, -nearest_usize_to_f64(v)),
+        _ => malformed(given),
     }
 }
 
@@ -241,70 +201,51 @@ fn cell_end(k: usize, given: Given, cell: Cell) -> Ended
 {
     match cell {
         Cell::Empty => malformed(given),
-        Cell::Plain(g) => plain_end(k, given, g),
-        Cell::Minus(g) => minus_end(k, given, g),
+        Cell::Plain(digits) => signed_end(k, given, false, digits),
+        Cell::Minus(digits) => signed_end(k, given, true, digits),
     }
-}
-
-fn cell_after(k: usize, given: Given, cell: Cell) -> Ended
-    ensures { result ≡ cell_after k given (as_cell cell) }
-{
-    if k < MOST_IN_ROW {
-        return cell_end(k, given, cell);
-    }
-    malformed(given)
 }
 
 // The field that a line awaits has ended, and token is what it was.
 pub fn field_end(place: Place, given: Given, token: Token) -> Ended
     ensures { result ≡ ended place given (reads token) }
 {
-    let word = token.word;
-    let cell = token.cell;
-    let hex = token.hex;
     match place {
-        Place::Word => onward(place_of(word), given),
-        Place::Number(number) => number_end(number, given, plain(cell)),
-        Place::Threshold => bits_end(given, hex),
-        Place::Row => cell_end(0, given, cell),
-        Place::Cells(k) => cell_after(k, given, cell),
-        Place::Cfg => malformed(given),
-        Place::No => malformed(given),
-        Place::Malformed => malformed(given),
+        Place::Word => onward(place_of(token.word), given),
+        Place::Number(number) => number_end(number, given, token.cell.plain().value()),
+        Place::Threshold => bits_end(given, token.bits()),
+        Place::Row => cell_end(0, given, token.cell),
+        Place::Cells(k) if k < MOST_IN_ROW => cell_end(k, given, token.cell),
+        Place::Cells(_) | Place::Cfg | Place::No | Place::Malformed => malformed(given),
     }
 }
 
-// Cell number k, of the 2,048 that are kept; one that has no room is dropped.
+// One that has no room is dropped.
+fn store_at<T: Copy>(i: usize, v: T, held: &mut [T])
+    ensures { held.new ≡ slice_set held.old i v }
+{
+    if i < held.len() {
+        held[i] = v;
+    }
+}
+
+// Cell number k, of the 2,048 that are kept.
 fn store_cell(k: usize, value: f64, cells: &mut [f64])
     ensures { cells.new ≡ stored_cell k value cells.old }
 {
-    if MOST_CELLS <= k {
-        return;
+    if k < MOST_CELLS {
+        store_at(k, value, cells);
     }
-    if cells.len() <= k {
-        return;
-    }
-    cells[k] = value;
-}
-
-fn store_at(i: usize, v: usize, forbidden: &mut [usize])
-    ensures { forbidden.new ≡ slice_set forbidden.old i v }
-{
-    if forbidden.len() <= i {
-        return;
-    }
-    forbidden[i] = v;
 }
 
 // Pair number k, of the 64 that are kept.
 fn store_pair(k: usize, a: usize, b: usize, forbidden: &mut [usize])
     ensures { forbidden.new ≡ stored_pair k a b forbidden.old }
 {
-    if MOST_PAIRS <= k {
-        return;
+    if k < MOST_PAIRS {
+        store_at(2 * k, a, forbidden);
+        store_at(2 * k + 1, b, forbidden);
     }
-    store_at(2 * k, a, forbidden);
-    store_at(2 * k + 1, b, forbidden);
 }
 
 pub fn store(event: Event, cells: &mut [f64], forbidden: &mut [usize])

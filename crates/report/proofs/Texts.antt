@@ -4,11 +4,10 @@ use mathlib.Core.Logic.{inr}
 use mathlib.Core.List.{List, [], ◌∷◌, ◌++◌, append_assoc}
 use Prim.Native.Nat.{ℕ, zero, suc, ◌+◌, ◌-◌, ◌*◌, ◌/◌, ◌%◌, ◌^◌, ◌≤◌, ◌<◌}
 use native.Mathlib.Nat.{pow-suc, pow-le-pow_right}
-use native.Mathlib.Numerals.{add-one}
 use native.Mathlib.Decide.{dec_le}
 use native.Mathlib.Omega.{arith}
-use lib.ListN.{length, get_or, set, take, drop, length-append, drop_of_length-le}
-use lib.Seq.{sets, length-sets, sets-eq, drop-cons, take_at}
+use lib.ListN.{length, take, drop, length-append}
+use lib.Seq.{length-sets, sets-eq, take_at}
 use borrow.Author.Tests.{lt-ltb, le-ltb}
 use Rattle.io.specs.Digits.{last_digits, IsDigitCount}
 use Rattle.rows.proofs.Stored.{sets_append}
@@ -44,13 +43,6 @@ written_so P {l} {xs} {m} {e} so w h =
 -- a field and its tab, before the rest of a line
 pub written_field : (f : List ℕ) {l m rest n : List ℕ} {at e k : ℕ} → Written l at (f ++ (9 ∷ [])) m e → Written m e rest n k → Written l at (f ++ (9 ∷ rest)) n k
 written_field f p q = rw append_assoc at (written_then p q)
-
--- ---- a byte of a text after another
-pub sets_next : (l text : List ℕ) (at i : ℕ) → i < length text → sets l (at + i) (drop i text) ≡ sets (set l (at + i) (get_or text i 0)) (at + (i + 1)) (drop (i + 1) text)
-sets_next l text at i h = let e : at + suc i ≡ suc (at + i) = omega arith in rw (add-one, drop-cons text i 0 h, e)
-
-pub sets_none : (l text : List ℕ) (at i : ℕ) → length text ≤ i → sets l (at + i) (drop i text) ≡ l
-sets_none l text at i h = rw (drop_of_length-le text h)
 
 -- ---- digits
 pub hex_digits : (k n : ℕ) → last_digits 16 k n ≡ hex_of k n

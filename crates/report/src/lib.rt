@@ -1,204 +1,170 @@
-// The lines that the programs write, and their parts, into a lent slice from a position on; each function answers the position behind what it wrote.
-// Inside the library. A line of the sheet's program has at most 111 bytes: that is the room that each asks.
+// The lines that the programs write, and their parts. Inside the library. A line of the sheet's program has at most 111 bytes: that is the room that each asks.
+// They are no `write!`: that answers an error where a text does not fit, and no contract of it says that one fits.
 #![tactic(auto)]
 
-ghost use Rattle.std.specs.Prelude.{◌≡◌, [], ◌∷◌, ◌++◌, ◌+◌, ◌≤◌, ◌<◌, length};
+ghost use Rattle.std.specs.Prelude.{◌≡◌, [], ◌∷◌, ◌++◌, ◌+◌, ◌≤◌, length};
 ghost use Rattle.std.specs.Float.{binary64};
 ghost use Rattle.std.specs.Float.Ieee.{to_bits};
-ghost use Rattle.scope.specs.Text.{bytes, decimal, hex_of, line};
+ghost use Rattle.scope.specs.Text.{decimal, hex_of, line};
 ghost use Rattle.scope.specs.Origin.{origin_text};
 ghost use Rattle.scope.specs.Program.{cut_line};
 ghost use Rattle.optimizer.specs.Records.{to_origin, to_record};
 ghost use Rattle.report.specs.Fields.{ended_by, line_room};
-ghost use Rattle.report.specs.Written.{Written};
+ghost use Rattle.report.specs.Written.{Put, RoomFor};
 
 use optimizer::optimizer_result::{GainRecord, Origin};
 use rows::{Position, Segment};
 
-// Bytes as they stand.
-pub fn put_text(out: &mut [u8], at: usize, text: &[u8]) -> usize
-    requires { at + length text.now ≤ length out.old }
-    ensures { Written out.old at text.now out.new result }
-{
-    let mut i = 0;
-    while i < text.len() {
-        out[at + i] = text[i];
-        i += 1;
-    }
-    at + text.len()
-}
-
-// A number in decimal.
-pub fn put_decimal(out: &mut [u8], at: usize, v: u64) -> usize
-    requires { at + length (decimal v) ≤ length out.old }
-    ensures written { Written out.old at (decimal v) out.new result }
-    ensures most { result ≤ at + 20 }
-{
-    let mut digits = [0u8; 20];
-    let k = io::decimal(v, &mut digits);
-    put_text(out, at, &digits[..k])
-}
-
-// Bits as 16 hex digits.
-pub fn put_hex(out: &mut [u8], at: usize, bits: u64) -> usize
-    requires { at + 16 ≤ length out.old }
-    ensures written { Written out.old at (hex_of 16 bits) out.new result }
-    ensures most { result ≤ at + 16 }
-{
-    let mut digits = [0u8; 16];
-    let k = io::hex(bits, 16, &mut digits);
-    put_text(out, at, &digits[..k])
-}
-
-fn put_byte(out: &mut [u8], at: usize, b: u8) -> usize
-    requires { at < length out.old }
-    ensures { Written out.old at (b ∷ []) out.new result }
-{
-    out[at] = b;
-    at + 1
-}
-
-// A number, and the byte that ends it.
-pub fn put_number(out: &mut [u8], at: usize, v: u64, end: u8) -> usize
-    requires { at + 21 ≤ length out.old }
-    ensures written { Written out.old at (decimal v ++ (end ∷ [])) out.new result }
-    ensures most { result ≤ at + 21 }
-{
-    let next = put_decimal(out, at, v);
-    put_byte(out, next, end)
-}
-
-// A word with its tab, and a number that ends the line.
-fn put_count(out: &mut [u8], at: usize, word: &[u8], v: u64) -> usize
-    requires { at + length word.now + 21 ≤ length out.old }
-    ensures written { Written out.old at (word.now ++ (decimal v ++ (10 ∷ []))) out.new result }
-    ensures most { result ≤ at + length word.now + 21 }
-{
-    let next = put_text(out, at, word);
-    put_number(out, next, v, b'\n')
-}
-
-// The first malformed line's number.
-pub fn put_bad(out: &mut [u8], at: usize, number: u64) -> usize
-    requires { at + line_room ≤ length out.old }
-    ensures written { Written out.old at (line (bytes "bad" ∷ decimal number ∷ [])) out.new result }
-    ensures most { result ≤ at + line_room }
-{
-    put_count(out, at, b"bad\t", number)
-}
-
-// A refusal's number.
-pub fn put_refused(out: &mut [u8], at: usize, number: u32) -> usize
-    requires { at + line_room ≤ length out.old }
-    ensures written { Written out.old at (line (bytes "refused" ∷ decimal number ∷ [])) out.new result }
-    ensures most { result ≤ at + line_room }
-{
-    put_count(out, at, b"refused\t", number as u64)
-}
-
-// How many cuts follow.
-pub fn put_cuts(out: &mut [u8], at: usize, count: usize) -> usize
-    requires { at + line_room ≤ length out.old }
-    ensures written { Written out.old at (line (bytes "cuts" ∷ decimal count ∷ [])) out.new result }
-    ensures most { result ≤ at + line_room }
-{
-    put_count(out, at, b"cuts\t", count as u64)
-}
-
-// How many nodes the tree has.
-pub fn put_nodes(out: &mut [u8], at: usize, count: usize) -> usize
-    requires { at + line_room ≤ length out.old }
-    ensures written { Written out.old at (line (bytes "nodes" ∷ decimal count ∷ [])) out.new result }
-    ensures most { result ≤ at + line_room }
-{
-    put_count(out, at, b"nodes\t", count as u64)
+// A lent slice that is being written: its next byte stands at `at`.
+#[derive(Drop)]
+pub struct Page<'a> {
+    pub out: &'a mut [u8],
+    pub at: usize,
 }
 
 // The bits of a gain; a NaN's are those of the one NaN that the definitions know.
 fn bits_of(gain: f64) -> u64
     ensures { result ≡ to_bits binary64 gain }
 {
-    if gain != gain {
+    if gain.is_nan() {
         return 0x7ff8_0000_0000_0000;
     }
-    f64::to_bits(gain)
+    gain.to_bits()
 }
 
-// A segment's ends, and the byte after them.
-pub fn put_ends(out: &mut [u8], at: usize, ends: Segment, end: u8) -> usize
-    requires { at + 42 ≤ length out.old }
-    ensures written { Written out.old at (ended_by end (decimal ends.start.0 ∷ decimal ends.stop.0 ∷ [])) out.new result }
-    ensures most { result ≤ at + 42 }
-{
-    let next = put_number(out, at, ends.start.0 as u64, b'\t');
-    put_number(out, next, ends.stop.0 as u64, end)
-}
-
-// A word with its tab, a row, its gain's bits in a segment, the segment's ends, and the byte after them.
-pub fn put_gain(
-    out: &mut [u8],
-    at: usize,
-    word: &[u8],
-    row: Position,
-    gain: f64,
-    ends: Segment,
-    end: u8,
-) -> usize
-    requires { at + length word.now + 80 ≤ length out.old }
-    ensures written { Written out.old at (word.now ++ ended_by end (decimal row.0 ∷ hex_of 16 (to_bits binary64 gain) ∷ decimal ends.start.0 ∷ decimal ends.stop.0 ∷ [])) out.new result }
-    ensures most { result ≤ at + length word.now + 80 }
-{
-    let a = put_text(out, at, word);
-    let b = put_number(out, a, row.0 as u64, b'\t');
-    let c = put_hex(out, b, bits_of(gain));
-    let d = put_byte(out, c, b'\t');
-    put_ends(out, d, ends, end)
-}
-
-// A word with its blank, and a number.
-fn put_numbered(out: &mut [u8], at: usize, word: &[u8], v: u64) -> usize
-    requires { at + length word.now + length (decimal v) ≤ length out.old }
-    ensures written { Written out.old at (word.now ++ decimal v) out.new result }
-    ensures most { result ≤ at + length word.now + 20 }
-{
-    let next = put_text(out, at, word);
-    put_decimal(out, next, v)
-}
-
-// An origin: `direct`, `layer K` or `draw K`. It asks just the room that its text takes.
-pub fn put_origin(out: &mut [u8], at: usize, origin: Origin) -> usize
-    requires { at + length (origin_text (to_origin origin)) ≤ length out.old }
-    ensures written { Written out.old at (origin_text (to_origin origin)) out.new result }
-    ensures most { result ≤ at + 26 }
-{
-    match origin {
-        Origin::Direct => put_text(out, at, b"direct"),
-        Origin::Layer(k) => put_numbered(out, at, b"layer ", k as u64),
-        Origin::Draw(k) => put_numbered(out, at, b"draw ", k as u64),
+impl<'a> Page<'a> {
+    // Bytes as they stand.
+    pub fn put_text(&mut self, text: &[u8])
+        requires { RoomFor (length text.now) self.old }
+        ensures { Put self.old text.now self.new }
+    {
+        let end = self.at + text.len();
+        self.out[self.at..end].copy_from_slice(text);
+        self.at = end;
     }
-}
 
-// An origin, the last field of a line.
-pub fn put_last_origin(out: &mut [u8], at: usize, origin: Origin) -> usize
-    requires { at + 27 ≤ length out.old }
-    ensures written { Written out.old at (line (origin_text (to_origin origin) ∷ [])) out.new result }
-    ensures most { result ≤ at + 27 }
-{
-    let next = put_origin(out, at, origin);
-    put_byte(out, next, b'\n')
-}
+    fn put_byte(&mut self, byte: u8)
+        requires { RoomFor 1 self.old }
+        ensures { Put self.old (byte ∷ []) self.new }
+    {
+        self.put_text(&[byte]);
+    }
 
-// A cut: its row, the gain's bits, and the chosen record's ends and origin.
-pub fn put_cut(out: &mut [u8], at: usize, cut: GainRecord) -> usize
-    requires { at + line_room ≤ length out.old }
-    ensures written { Written out.old at (cut_line (to_record cut)) out.new result }
-    ensures most { result ≤ at + line_room }
-{
-    let row = cut.best_split;
-    let start = cut.start;
-    let stop = cut.stop;
-    let origin = cut.origin;
-    let ends = Segment { start, stop };
-    let next = put_gain(out, at, b"cut\t", row, cut.max_gain, ends, b'\t');
-    put_last_origin(out, next, origin)
+    // A number in decimal.
+    pub fn put_decimal(&mut self, v: u64)
+        requires { RoomFor (length (decimal v)) self.old }
+        ensures written { Put self.old (decimal v) self.new }
+        ensures most { self.new.at ≤ self.old.at + 20 }
+    {
+        let mut digits = [0u8; 20];
+        let k = io::decimal(v, &mut digits);
+        self.put_text(&digits[..k]);
+    }
+
+    // Bits as 16 hex digits.
+    fn put_hex(&mut self, bits: u64)
+        requires { RoomFor 16 self.old }
+        ensures written { Put self.old (hex_of 16 bits) self.new }
+        ensures most { self.new.at ≤ self.old.at + 16 }
+    {
+        let mut digits = [0u8; 16];
+        let k = io::hex(bits, 16, &mut digits);
+        self.put_text(&digits[..k]);
+    }
+
+    // A word, the first field of a line, and its tab.
+    pub fn put_word(&mut self, word: &[u8])
+        requires { RoomFor (length word.now + 1) self.old }
+        ensures { Put self.old (word.now ++ (9 ∷ [])) self.new }
+    {
+        self.put_text(word);
+        self.put_byte(b'\t');
+    }
+
+    // A number, and the byte that ends it.
+    pub fn put_number(&mut self, v: u64, end: u8)
+        requires { RoomFor 21 self.old }
+        ensures written { Put self.old (decimal v ++ (end ∷ [])) self.new }
+        ensures most { self.new.at ≤ self.old.at + 21 }
+    {
+        self.put_decimal(v);
+        self.put_byte(end);
+    }
+
+    // A line of a word and a number: the first malformed line's, a refusal's, how many cuts follow, how many nodes the tree has.
+    pub fn put_count(&mut self, word: &[u8], v: u64)
+        requires { RoomFor (length word.now + 22) self.old }
+        ensures written { Put self.old (line (word.now ∷ decimal v ∷ [])) self.new }
+        ensures most { self.new.at ≤ self.old.at + length word.now + 22 }
+    {
+        self.put_word(word);
+        self.put_number(v, b'\n');
+    }
+
+    // A segment's ends, and the byte after them.
+    pub fn put_ends(&mut self, ends: Segment, end: u8)
+        requires { RoomFor 42 self.old }
+        ensures written { Put self.old (ended_by end (decimal ends.start.0 ∷ decimal ends.stop.0 ∷ [])) self.new }
+        ensures most { self.new.at ≤ self.old.at + 42 }
+    {
+        self.put_number(ends.start.0 as u64, b'\t');
+        self.put_number(ends.stop.0 as u64, end);
+    }
+
+    // A word, a row, its gain's bits in a segment, the segment's ends, and the byte after them.
+    pub fn put_gain(&mut self, word: &[u8], row: Position, gain: f64, ends: Segment, end: u8)
+        requires { RoomFor (length word.now + 81) self.old }
+        ensures written { Put self.old (ended_by end (word.now ∷ decimal row.0 ∷ hex_of 16 (to_bits binary64 gain) ∷ decimal ends.start.0 ∷ decimal ends.stop.0 ∷ [])) self.new }
+        ensures most { self.new.at ≤ self.old.at + length word.now + 81 }
+    {
+        self.put_word(word);
+        self.put_number(row.0 as u64, b'\t');
+        self.put_hex(bits_of(gain));
+        self.put_byte(b'\t');
+        self.put_ends(ends, end);
+    }
+
+    // A word with its blank, and a number.
+    fn put_numbered(&mut self, word: &[u8], v: u64)
+        requires { RoomFor (length word.now + length (decimal v)) self.old }
+        ensures written { Put self.old (word.now ++ decimal v) self.new }
+        ensures most { self.new.at ≤ self.old.at + length word.now + 20 }
+    {
+        self.put_text(word);
+        self.put_decimal(v);
+    }
+
+    // An origin: `direct`, `layer K` or `draw K`. It asks just the room that its text takes.
+    #[tactic(auto, unfolding(scope::specs::Origin::origin_text, scope::specs::Text::bytes))]
+    pub fn put_origin(&mut self, origin: Origin)
+        requires { RoomFor (length (origin_text (to_origin origin))) self.old }
+        ensures written { Put self.old (origin_text (to_origin origin)) self.new }
+        ensures most { self.new.at ≤ self.old.at + 26 }
+    {
+        match origin {
+            Origin::Direct => self.put_text(b"direct"),
+            Origin::Layer(k) => self.put_numbered(b"layer ", k as u64),
+            Origin::Draw(k) => self.put_numbered(b"draw ", k as u64),
+        }
+    }
+
+    // An origin, the last field of a line.
+    pub fn put_last_origin(&mut self, origin: Origin)
+        requires { RoomFor 27 self.old }
+        ensures written { Put self.old (line (origin_text (to_origin origin) ∷ [])) self.new }
+        ensures most { self.new.at ≤ self.old.at + 27 }
+    {
+        self.put_origin(origin);
+        self.put_byte(b'\n');
+    }
+
+    // A cut: its row, the gain's bits, and the chosen record's ends and origin.
+    pub fn put_cut(&mut self, cut: GainRecord)
+        requires { RoomFor line_room self.old }
+        ensures written { Put self.old (cut_line (to_record cut)) self.new }
+        ensures most { self.new.at ≤ self.old.at + line_room }
+    {
+        self.put_gain(b"cut", cut.best_split, cut.max_gain, cut.segment(), b'\t');
+        self.put_last_origin(cut.origin);
+    }
 }

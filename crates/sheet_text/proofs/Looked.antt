@@ -1,68 +1,55 @@
--- The first record at a row, looked for in lent memory record by record; and the lines, row by row. Assumes nothing.
-use mathlib.Core.Path.{◌≡◌, refl, sym, ◌∙◌, ap}
+-- The first record at a row, looked for record by record; and the lines, row by row. Assumes nothing.
+use mathlib.Core.Path.{◌≡◌, refl, sym, ◌∙◌}
 use mathlib.Core.List.{List, [], ◌∷◌, ◌++◌, append-nil, append_assoc}
-use mathlib.Core.Option.{Option, none, some}
 use Prim.Native.Nat.{ℕ, ◌+◌, ◌≤◌, ◌<◌}
 use native.Mathlib.Numerals.{add-one}
 use native.Mathlib.Omega.{arith}
-use lib.Ieee.{Float}
+use mathlib.Core.Bool.{true, false}
+use lib.Dec.{eqb}
 use lib.ListN.{length, take, get_or}
 use lib.Seq.{take-suc, take_all}
+use Rattle.std.specs.Prelude.{None, Some}
 use Rattle.scope.specs.Grid.{Record}
-use Rattle.scope.proofs.Never.{never}
-use Rattle.stored.specs.Flat.{record_at, records_in}
+use Rattle.stored.specs.Flat.{record_at}
+use Rattle.stored.specs.Records.{records_of}
+use Rattle.stored.specs.declared.records.Records.{Records}
 use Rattle.stored.proofs.Chosen.{left, left_all, left_none, left_next}
-use Rattle.report.specs.Written.{Written}
-use Rattle.optimizer.specs.Records.{to_record, from_record}
-use Rattle.optimizer.specs.declared.optimizer_result.GainRecord.{GainRecord}
-use Rattle.optimizer.proofs.Origins.{to_from, from_to}
-use Rattle.sheet_text.specs.Lines.{first_at, found_of, line_of, lines_of}
-use Rattle.sheet_text.specs.declared.Found.TheVariants as found
-use Rattle.sheet_text.proofs.Lookup.{first_here, first_past}
+use Rattle.report.specs.Written.{Put}
+use Rattle.report.specs.declared.Page.{Page}
+use Rattle.sheet_text.specs.Lines.{first_at, line_of, lines_of}
 
 -- none of the first k records splits at the row
-pub record Unseen (rows : List ℕ) (gains : List Float) (count row k : ℕ) : Type 0 where
-  pub same : first_at row (records_in rows gains count) ≡ first_at row (left rows gains count k)
+pub record Unseen (records : Records) (row k : ℕ) : Type 0 where
+  pub same : first_at row (records_of records) ≡ first_at row (left records.rows.now records.gains.now records.count k)
 
-module _ {rows : List ℕ} {gains : List Float} {count row : ℕ} where
-  pub unseen_none : Unseen rows gains count row 0
-  unseen_none = record { same = rw (left_all rows gains count) }
+module _ {records : Records} {row : ℕ} where
+  pub unseen_none : Unseen records row 0
+  unseen_none = record { same = rw (left_all records.rows.now records.gains.now records.count) }
 
-  module _ {k : ℕ} {r : Record} (more : k < count) (is : r ≡ record_at rows gains k) (unseen : Unseen rows gains count row k) where
-    next : first_at row (records_in rows gains count) ≡ first_at row (r ∷ left rows gains count (k + 1))
-    next = unseen.same ∙ ap (first_at row) (left_next rows gains count k more) ∙ ap (λ (x : Record). first_at row (x ∷ left rows gains count (k + 1))) (sym is)
+  module _ {k : ℕ} {r : Record} (more : k < records.count) (is : r ≡ record_at records.rows.now records.gains.now k) (unseen : Unseen records row k) where
+    next : first_at row (records_of records) ≡ first_at row (r ∷ left records.rows.now records.gains.now records.count (k + 1))
+    next = unseen.same ∙ simp (left_next records.rows.now records.gains.now records.count k more, is)
 
-    pub seen : r.split ≡ row → first_at row (records_in rows gains count) ≡ some r
-    seen e = next ∙ first_here row r (left rows gains count (k + 1)) e
+    pub seen : eqb r.split row ≡ true → Some r ≡ first_at row (records_of records)
+    unfolding first_at
+    seen e = sym (next ∙ rw e)
 
-    pub unseen_more : (r.split ≡ row → ⊥) → Unseen rows gains count row (k + 1)
-    unseen_more e = record { same = next ∙ first_past row r (left rows gains count (k + 1)) e }
+    pub unseen_more : eqb r.split row ≡ false → Unseen records row (k + 1)
+    unfolding first_at
+    unseen_more e = record { same = next ∙ rw e }
 
-  pub unseen_all : {k : ℕ} → count ≤ k → Unseen rows gains count row k → first_at row (records_in rows gains count) ≡ none
+  pub unseen_all : {k : ℕ} → records.count ≤ k → Unseen records row k → None ≡ first_at row (records_of records)
   unfolding first_at
-  unseen_all {k} h unseen = unseen.same ∙ rw (left_none rows gains count k h)
-
--- ---- the code's answer for the first record, and what the answer says of it
-pub is_found : (o : Option Record) (g : GainRecord) → o ≡ some (to_record g) → found.Record g ≡ found_of o
-is_found o g e = sym (ap found_of e ∙ ap found.Record (from_to g))
-
-pub found_is : (o : Option Record) (g : GainRecord) → found.Record g ≡ found_of o → o ≡ some (to_record g)
-found_is none g h = never (cc)
-found_is (some r) g h = let e : g ≡ from_record r = cc in ap some (sym (ap to_record e ∙ to_from r))
-
-pub nothing_is : (o : Option Record) → found.Nothing ≡ found_of o → o ≡ none
-nothing_is none h = refl
-nothing_is (some r) h = never (cc)
+  unseen_all {k} h unseen = sym (unseen.same ∙ rw (left_none records.rows.now records.gains.now records.count k h))
 
 -- ---- one line more
+pub put_none : {page : Page} → Put page [] page
+put_none = record { same_slice = refl; long = refl; written = record { end_is = omega arith; after_is = refl } }
+
 lines_append : (rs : List Record) (xs ys : List ℕ) → lines_of rs (xs ++ ys) ≡ lines_of rs xs ++ lines_of rs ys
 unfolding lines_of
 lines_append rs [] ys = refl
 lines_append rs (x ∷ xs) ys = rw (lines_append rs xs ys) (sym (append_assoc (line_of (first_at x rs)) (lines_of rs xs) (lines_of rs ys)))
-
-pub lines_none : (rs : List Record) (xs out : List ℕ) (at : ℕ) → Written out at (lines_of rs (take 0 xs)) out at
-unfolding lines_of
-lines_none rs xs out at = record { end_is = omega arith; after_is = refl }
 
 pub lines_next : (rs : List Record) (xs : List ℕ) (i : ℕ) → i < length xs → lines_of rs (take i xs) ++ line_of (first_at (get_or xs i 0) rs) ≡ lines_of rs (take (i + 1) xs)
 unfolding lines_of

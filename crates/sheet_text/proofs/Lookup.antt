@@ -5,6 +5,7 @@ use mathlib.Core.Bool.{Bool, true, false, cond}
 use mathlib.Core.List.Memᴰ
 use mathlib.Core.List.{List, [], ◌∷◌, ◌++◌, map}
 use mathlib.Core.Option.{Option, none, some}
+use Rattle.std.specs.Prelude.{Some}
 use Prim.Native.Nat.{ℕ, ◌≤◌, ◌<◌}
 use native.Mathlib.Omega.{arith}
 use borrow.Author.Tests.{eq-eqb, ne_eqb}
@@ -25,7 +26,7 @@ use Rattle.demand.proofs.Made.{grown_grows, grown_made}
 use Rattle.sheet_text.specs.Lines.{first_at, lines_of}
 
 -- ---- the first in a list
-pub first_here : (x : ℕ) (r : Record) (rs : List Record) → r.split ≡ x → first_at x (r ∷ rs) ≡ some r
+pub first_here : (x : ℕ) (r : Record) (rs : List Record) → r.split ≡ x → first_at x (r ∷ rs) ≡ Some r
 unfolding first_at
 first_here x r rs e = rw (eq-eqb r.split x e)
 
@@ -33,12 +34,12 @@ pub first_past : (x : ℕ) (r : Record) (rs : List Record) → (r.split ≡ x �
 unfolding first_at
 first_past x r rs e = rw (ne_eqb r.split x e)
 
-first_before : (x : ℕ) (r : Record) (rs more : List Record) → first_at x rs ≡ some r → first_at x (rs ++ more) ≡ some r
+first_before : (x : ℕ) (r : Record) (rs more : List Record) → first_at x rs ≡ Some r → first_at x (rs ++ more) ≡ Some r
 unfolding first_at
 first_before x r [] more h = never (cc)
 first_before x r (s ∷ rs) more h = go (eqb s.split x) h (first_before x r rs more)
   where
-    go : (b : Bool) → cond b (some s) (first_at x rs) ≡ some r → (first_at x rs ≡ some r → first_at x (rs ++ more) ≡ some r) → cond b (some s) (first_at x (rs ++ more)) ≡ some r
+    go : (b : Bool) → cond b (Some s) (first_at x rs) ≡ Some r → (first_at x rs ≡ Some r → first_at x (rs ++ more) ≡ Some r) → cond b (Some s) (first_at x (rs ++ more)) ≡ Some r
     go true h later = h
     go false h later = later h
 
@@ -85,7 +86,7 @@ module _ (q : Run) (least : 1 ≤ q.shortest.m) where
         go none e = never (cc)
         go (some d) e = e
 
-    first_cut : (start stop : ℕ) (t : Tree) → Grows q start stop t → (r : Record) → r ∈ cuts t → first_at r.split (directs q t) ≡ some r
+    first_cut : (start stop : ℕ) (t : Tree) → Grows q start stop t → (r : Record) → r ∈ cuts t → first_at r.split (directs q t) ≡ Some r
     unfolding cuts directs
     first_cut start stop t (as_leaf h) r i = absurd (Memᴰ.not-nil i)
     first_cut start stop t (as_node {r = c} {s = l} {t = u} h x y) r i =
@@ -104,12 +105,12 @@ module _ (q : Run) (least : 1 ≤ q.shortest.m) where
         (Memᴰ.cases_cons j))
         (Memᴰ.append_cases (cuts l) i))
 
-    first_made : 1 ≤ q.n → (r : Record) → r ∈ cuts (tree_of q) → first_at r.split (records_of q) ≡ some r
+    first_made : 1 ≤ q.n → (r : Record) → r ∈ cuts (tree_of q) → first_at r.split (records_of q) ≡ Some r
     unfolding records_of
     first_made nonempty r i = rw (no_segments, grown_made q least nonempty) (first_cut 0 q.n (tree_of q) (grown_grows q least nonempty) r i)
 
 -- ---- so each cut's line is that of the first record at its row
-lines_of_lem : (rs cs : List Record) → ((r : Record) → r ∈ cs → first_at r.split rs ≡ some r) → lines_of rs (map (λ (r : Record). r.split) cs) ≡ cut_lines cs
+lines_of_lem : (rs cs : List Record) → ((r : Record) → r ∈ cs → first_at r.split rs ≡ Some r) → lines_of rs (map (λ (r : Record). r.split) cs) ≡ cut_lines cs
 unfolding lines_of cut_lines
 lines_of_lem rs [] h = refl
 lines_of_lem rs (c ∷ cs) h = rw (h c (Memᴰ.head refl), lines_of_lem rs cs (λ r i. h r (Memᴰ.tail i)))

@@ -1,27 +1,18 @@
 -- The sheet's text, from the rows that are cut and the records that were made.
-use Rattle.std.specs.Prelude.{cond, List, [], ◌∷◌, ◌++◌, ℕ, eqb, length}
-use Rattle.std.proofs.Math.Option.{Option, none, some}
+use Rattle.std.specs.Prelude.{cond, List, [], ◌∷◌, ◌++◌, ℕ, eqb, length, Option, None, Some}
 use Rattle.scope.specs.Grid.{Record}
 use Rattle.scope.specs.Text.{bytes, decimal, line}
 use Rattle.scope.specs.Program.{cut_line}
-use Rattle.optimizer.specs.Records.{from_record}
-use Rattle.sheet_text.specs.declared.Found.{Found}
-use Rattle.sheet_text.specs.declared.Found.TheVariants as found
 
 -- the first record that splits at x
 unfoldable pub first_at : ℕ → List Record → Option Record
-first_at x [] = none
-first_at x (r ∷ rs) = cond (eqb r.split x) (some r) (first_at x rs)
-
--- the code's answer for it
-abbrev pub found_of : Option Record → Found
-found_of none = found.Nothing
-found_of (some r) = found.Record (from_record r)
+first_at x [] = None
+first_at x (r ∷ rs) = cond (eqb r.split x) (Some r) (first_at x rs)
 
 -- its line, if there is one
 abbrev pub line_of : Option Record → List ℕ
-line_of none = []
-line_of (some r) = cut_line r
+line_of None = []
+line_of (Some r) = cut_line r
 
 -- for each row, in order, the line of the first record that splits there
 unfoldable pub lines_of : List Record → List ℕ → List ℕ

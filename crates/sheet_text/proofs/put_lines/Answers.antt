@@ -1,36 +1,25 @@
--- `put_lines` meets its contract: the lines of the rows so far stand written, in at most `line_room` bytes each.
-use mathlib.Core.Path.{refl, ◌∙◌}
-use native.Mathlib.Omega.{arith}
-use Rattle.stored.specs.Flat.{records_in}
-use Rattle.report.proofs.Texts.{written_then, written_length}
-use Rattle.sheet_text.proofs.Looked.{lines_none, lines_next, lines_all}
+-- `put_lines` meets its contract: a line for each row so far.
+use Rattle.std.proofs.Common.{arith}
+use Rattle.stored.specs.Records.{records_of}
+use Rattle.report.proofs.Pages.{put_then}
+use Rattle.sheet_text.specs.Lines.{lines_of}
+use Rattle.sheet_text.proofs.Looked.{put_none, lines_next, lines_all}
 use Rattle.sheet_text.proofs.put_lines.Goals as goal
 
-pub loop-i-init : goal.loop-i-init
-loop-i-init c = let s = c.args in (omega arith, omega arith, refl, lines_none (records_in s.rows.now s.gains.now s.count) s.cuts.now s.out.now s.at)
+pub loop-row-init : goal.loop-row-init
+unfolding lines_of
+loop-row-init c = record { written = put_none; most = omega arith }
 
-pub offset_bounds-cuts-i : goal.offset_bounds-cuts-i
-offset_bounds-cuts-i c = omega arith
-
-pub put_line-next-requires : goal.put_line-next-requires
-put_line-next-requires c = (omega arith, omega arith, omega arith)
-
-pub loop-i-preserved : goal.loop-i-preserved
-loop-i-preserved c =
-    let s = c.args in
-    let at = c.loop-i in
-    let line = c.put_line-next.ensures in (
-      omega arith,
-      omega (arith, line.most),
-      written_length line.written ∙ at.invariant.2,
-      rw (← lines_next (records_in s.rows.now s.gains.now s.count) s.cuts.now at.i (omega arith)) (written_then at.invariant.3 line.written),
-    )
-
-pub shape_of-out : goal.shape_of-out
-shape_of-out c = c.loop-i.invariant.2
+pub loop-row-preserved : goal.loop-row-preserved
+loop-row-preserved c =
+    let so_far = c.loop-row.invariant in
+    let line = c.put_line.ensures in
+    record {
+      written = rw (← lines_next (records_of c.args.records) c.args.cuts.now c.loop-row.row-index (omega arith)) (put_then so_far.written line.written);
+      most = omega arith;
+    }
 
 pub returns : goal.returns
 returns c =
-    let s = c.args in
-    let at = c.loop-i in
-    record { written = rw (← lines_all (records_in s.rows.now s.gains.now s.count) s.cuts.now at.i (omega arith)) at.invariant.3; most = omega arith }
+    let all = lines_all (records_of c.args.records) c.args.cuts.now c.loop-row.row-index (omega arith) in
+    record { written = rw (← all) c.loop-row.invariant.written; most = omega arith }

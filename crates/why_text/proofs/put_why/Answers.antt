@@ -1,20 +1,22 @@
 -- `put_why` meets its contract: variant by variant.
-use native.Mathlib.Omega.{arith}
 use Rattle.scope.specs.Text.{bytes, line}
 use Rattle.report.specs.Fields.{ended_by}
 use Rattle.why_text.proofs.put_why.Goals as goal
 
-pub returns-in-Cut : goal.returns-in-Cut
-returns-in-Cut c = let text = c.put_cut.ensures in record { written = rw c.in-Cut.is text.written; most = omega (arith, text.most) }
+pub returns-in-Cut-clause-written : goal.returns-in-Cut-clause-written
+returns-in-Cut-clause-written c = rw c.in-Cut.is c.put_cut.ensures.written
 
-pub returns-in-TooNear : goal.returns-in-TooNear
-returns-in-TooNear c = let text = c.put_row.ensures in record { written = rw c.in-TooNear.is (unfold bytes line ended_by in text.written); most = omega (arith, text.most) }
+pub returns-in-TooNear-clause-written : goal.returns-in-TooNear-clause-written
+unfolding bytes line ended_by
+returns-in-TooNear-clause-written c = rw c.in-TooNear.is c.put_row.ensures.written
 
-pub returns-in-Barred : goal.returns-in-Barred
-returns-in-Barred c = let text = c.put_barred.ensures in record { written = rw c.in-Barred.is text.written; most = omega (arith, text.most) }
+pub returns-in-Barred-clause-written : goal.returns-in-Barred-clause-written
+returns-in-Barred-clause-written c = rw c.in-Barred.is c.put_barred.ensures.written
 
-pub returns-in-NoNumber : goal.returns-in-NoNumber
-returns-in-NoNumber c = let text = c.put_row-in-NoNumber.ensures in record { written = rw c.in-NoNumber.is (unfold bytes line ended_by in text.written); most = omega (arith, text.most) }
+pub returns-in-NoNumber-clause-written : goal.returns-in-NoNumber-clause-written
+unfolding bytes line ended_by
+returns-in-NoNumber-clause-written c = rw c.in-NoNumber.is c.put_row-in-NoNumber.ensures.written
 
-pub returns-in-NotAbove : goal.returns-in-NotAbove
-returns-in-NotAbove c = let text = c.put_gain.ensures in record { written = rw c.in-NotAbove.is (unfold bytes line ended_by in text.written); most = omega (arith, text.most) }
+pub returns-in-NotAbove-clause-written : goal.returns-in-NotAbove-clause-written
+unfolding bytes line ended_by
+returns-in-NotAbove-clause-written c = rw c.in-NotAbove.is c.put_gain.ensures.written

@@ -1,7 +1,0 @@
--- `put_nodes` meets its contract: by what its callees ensure.
-use native.Mathlib.Omega.{arith}
-use Rattle.scope.specs.Text.{bytes, line}
-use Rattle.report.proofs.put_nodes.Goals as goal
-
-pub returns : goal.returns
-returns c = let count = c.put_count.ensures in record { written = unfold bytes line in count.written; most = omega (arith, count.most) }
