@@ -1,2 +1,2 @@
 -- What contracts inside the library cite, beside document 01's definitions.
-pub mod Lent
+pub mod Asked

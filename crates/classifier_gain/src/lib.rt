@@ -1,31 +1,35 @@
 // A classifier's gain curve from its likelihoods, and what is refused of curves and their permutation test. Inside the library. After document 01, "Curves".
 #![tactic(auto)]
 
-ghost use Rattle.std.specs.Prelude.{◌≡◌, true, false, not, ◌||◌, ◌+◌, ◌-◌, ◌<◌, ◌≤◌, length, take};
-ghost use mathlib.Core.List.{[], ◌∷◌, ◌++◌, flatten};
+ghost use Rattle.std.specs.Prelude.{◌≡◌, ◌≤◌, ◌∷◌, ◌++◌, length, take, nat_eq};
+ghost use Rattle.std.specs.List.{list_all};
+ghost use mathlib.Core.List.{flatten};
+ghost use Rattle.scope.specs.Floats.{is_finite};
 ghost use Rattle.scope.specs.Lists.{holding, every};
 ghost use Rattle.scope.specs.Curves.{total_of, curve};
-ghost use Rattle.scope.specs.Floats.{is_finite};
 ghost use Rattle.scope.specs.Refusals.{first_of};
 ghost use Rattle.scope.specs.Calls.{wrong_lengths, first_length, within, permutation_tests, curve_refusal};
-ghost use Rattle.control.specs.Settings.{shortest_of};
-ghost use Rattle.classifier_gain.specs.Lent.{lent};
+ghost use Rattle.control.specs.Refused.{number_in};
+ghost use Rattle.classifier_gain.specs.Asked.{bases_of, deltas_of, curve_is_finite, permutation_asked};
 
-use control::Shortest;
-use permutations::wrong_permutations;
+use control::{Refusal, Shortest};
+use permutations::{Permutations, wrong_permutations};
 
 // The sum of values, left to right from 0.
+#[tactic(auto, unfolding(scope::specs::Curves::total_of))]
 fn total(values: &[f64]) -> f64
     ensures { result ≡ total_of values.now (length values.now) }
 {
     let mut sum = 0.0;
-    for k in 0..values.len() {
-        sum = sum + values[k];
+    for value in values {
+        sum += value;
     }
     sum
 }
 
 // The curve: the gain of each split, from the rows' likelihoods l0 left and l1 right of it. g is what a split gains over the sum of l1.
+// By row, since three slices are walked at once: `zip` of them would be no plainer.
+#[tactic(auto, using(crate::proofs::Curved::curve_step, crate::proofs::Curved::length_curve), unfolding(scope::specs::Curves::raised, scope::specs::Curves::curve))]
 pub fn gain_from_likelihoods(l0: &[f64], l1: &[f64], gain: &mut [f64])
     requires { (length l1.now ≡ length l0.now) × (length l0.now ≤ length gain.old) }
     ensures { gain.new ≡ holding (curve l0.now l1.now (length l0.now)) gain.old }
@@ -40,153 +44,132 @@ pub fn gain_from_likelihoods(l0: &[f64], l1: &[f64], gain: &mut [f64])
 
 const MOST_CURVES: usize = 3;
 
-// Whether the first k of three tests hold.
-fn first_hold(k: usize, a: bool, b: bool, c: bool) -> bool
-    ensures { result ≡ every (λ t. t) (lent k a b c) }
-{
-    if k < 1 {
-        return true;
-    }
-    if !a {
-        return false;
-    }
-    if k < 2 {
-        return true;
-    }
-    if !b {
-        return false;
-    }
-    if k < 3 {
-        return true;
-    }
-    c
+// A curve: its base sum and the deltas that are added to it.
+#[derive(Clone, Copy)]
+pub struct Curve<'a> {
+    pub base: f64,
+    pub deltas: &'a [f64],
 }
 
-// Whether a curve is finite; one beyond the count is not looked at.
-fn is_finite_within(counts: bool, deltas: &[f64]) -> bool
-    ensures { result ≡ (not counts || every is_finite deltas.now) }
-{
-    if !counts {
-        return true;
+impl Curve<'_> {
+    // Whether its base and its deltas are finite.
+    #[tactic(auto, using(control::proofs::Values::finite_is))]
+    fn is_finite(self) -> bool
+        ensures { result ≡ curve_is_finite self.entry }
+    {
+        self.base.is_finite() && control::all_finite(self.deltas)
     }
-    control::all_finite(deltas)
 }
 
-// Whether the observed maximum, and the first k bases and curves, are finite.
-fn all_finite(
-    maximum: f64,
-    k: usize,
-    base0: f64,
-    base1: f64,
-    base2: f64,
-    deltas0: &[f64],
-    deltas1: &[f64],
-    deltas2: &[f64],
-) -> bool
-    ensures { result ≡ every is_finite (maximum ∷ lent k base0 base1 base2 ++ flatten (lent k deltas0.now deltas1.now deltas2.now)) }
-{
-    if !control::is_finite(maximum) {
-        return false;
-    }
-    if !first_hold(
-        k,
-        control::is_finite(base0),
-        control::is_finite(base1),
-        control::is_finite(base2),
-    ) {
-        return false;
-    }
-    first_hold(
-        k,
-        is_finite_within(0 < k, deltas0),
-        is_finite_within(1 < k, deltas1),
-        is_finite_within(2 < k, deltas2),
-    )
+// Three curves are lent; the first k are looked at.
+#[derive(Clone, Copy)]
+pub struct Curves<'a> {
+    pub lent: [Curve<'a>; 3],
+    pub k: usize,
 }
 
-// Whether the first k curves differ in length from l, or l is no curve's length.
-fn wrong_lengths(l: usize, k: usize, deltas0: &[f64], deltas1: &[f64], deltas2: &[f64]) -> bool
-    ensures { result ≡ wrong_lengths l (lent k deltas0.now deltas1.now deltas2.now) }
-{
-    if !first_hold(
-        k,
-        deltas0.len() == l,
-        deltas1.len() == l,
-        deltas2.len() == l,
-    ) {
-        return true;
+impl Curves<'_> {
+    // Those that are looked at.
+    pub fn counted(&self) -> &[Curve<'_>]
+        ensures { result.now ≡ take self.now.k self.now.lent }
+    {
+        self.lent.get(..self.k).unwrap_or(&self.lent)
     }
-    control::is_outside(control::MOST_LENGTH, l)
+
+    // Whether the observed maximum is finite, and each curve.
+    #[tactic(auto, using(control::proofs::Values::finite_is, crate::proofs::Lents::finite_joined))]
+    fn all_finite(self, maximum: f64) -> bool
+        ensures { result ≡ every is_finite (maximum ∷ (take self.entry.k (bases_of self.entry.lent) ++ flatten (take self.entry.k (deltas_of self.entry.lent)))) }
+    {
+        maximum.is_finite() && self.are_finite()
+    }
+
+    // Whether each is finite.
+    fn are_finite(self) -> bool
+        ensures { result ≡ list_all curve_is_finite (take self.entry.k self.entry.lent) }
+    {
+        self.counted().iter().all(|curve| curve.is_finite())
+    }
+
+    // The first one's length, 0 if there is none.
+    #[tactic(auto, using(crate::proofs::Lents::deltas_within))]
+    pub fn first_length(self) -> usize
+        ensures { result ≡ first_length (take self.entry.k (deltas_of self.entry.lent)) }
+    {
+        self.counted().first().map_or(0, |curve| curve.deltas.len())
+    }
+
+    // Whether some differ in length from l, or l is no curve's length.
+    #[tactic(auto, using(crate::proofs::Lents::long_each), unfolding(scope::specs::Calls::wrong_lengths))]
+    fn wrong_lengths(self, l: usize) -> bool
+        ensures { result ≡ wrong_lengths l (take self.entry.k (deltas_of self.entry.lent)) }
+    {
+        !self.are_long(l) || control::is_outside(control::MOST_LENGTH, l)
+    }
+
+    // Whether each has the length l.
+    fn are_long(self, l: usize) -> bool
+        ensures { result ≡ list_all (λ c. nat_eq (length c.deltas.now) l) (take self.entry.k self.entry.lent) }
+    {
+        self.counted().iter().all(|curve| curve.deltas.len() == l)
+    }
 }
 
-// The first curve's length, 0 if there is none.
-pub fn first_length(k: usize, deltas0: &[f64]) -> usize
-    ensures { result ≡ first_length (take k (deltas0.now ∷ [])) }
-{
-    if k < 1 {
-        return 0;
-    }
-    deltas0.len()
-}
-
-// The number that applies to a call for a curve, or 0.
-pub fn curve_refusal(l0: &[f64], l1: &[f64], room: usize) -> u32
-    ensures { result ≡ curve_refusal (record { l0 = l0.now; l1 = l1.now; room = room }) }
+// What applies to a call for a curve.
+#[tactic(auto, using(scope::proofs::Every::every_append), unfolding(scope::specs::Calls::curve_refusal, scope::specs::Calls::wrong_lengths, scope::specs::Lists::every))]
+pub fn curve_refusal(l0: &[f64], l1: &[f64], room: usize) -> Result<(), Refusal>
+    ensures { number_in result ≡ curve_refusal (record { l0 = l0.now; l1 = l1.now; room = room }) }
 {
     if !control::all_finite(l0) {
-        return 4;
+        return Err(Refusal::NotFinite);
     }
     if !control::all_finite(l1) {
-        return 4;
+        return Err(Refusal::NotFinite);
     }
     if room < l0.len() {
-        return 7;
+        return Err(Refusal::Room);
     }
-    // Two rows: what is lent third lies beyond the count.
-    if wrong_lengths(l0.len(), 2, l0, l1, l1) {
-        return 12;
+    if l1.len() != l0.len() {
+        return Err(Refusal::Curves);
     }
-    0
+    if control::is_outside(control::MOST_LENGTH, l0.len()) {
+        return Err(Refusal::Curves);
+    }
+    Ok(())
 }
 
-// The number that applies to a call for a permutation test, or 0. Bases and curves beyond the count k are not looked at.
+// What applies to a call for a permutation test.
+#[tactic(auto, unfolding(scope::specs::Refusals::outside))]
 pub fn permutation_refusal(
+    curves: Curves,
+    permutations: Permutations,
     shortest: Shortest,
     alpha: f64,
-    p: usize,
     maximum: f64,
-    k: usize,
-    base0: f64,
-    base1: f64,
-    base2: f64,
-    deltas0: &[f64],
-    deltas1: &[f64],
-    deltas2: &[f64],
-    permutations: &[usize],
-) -> u32
-    ensures { result ≡ first_of (permutation_tests (within (record { shortest = shortest_of shortest; alpha = alpha; maximum = maximum; k = k; bases = base0 ∷ base1 ∷ base2 ∷ []; curves = deltas0.now ∷ deltas1.now ∷ deltas2.now ∷ []; P = p; permutations = permutations.now }))) }
+) -> Result<(), Refusal>
+    ensures { number_in result ≡ first_of (permutation_tests (within (permutation_asked curves.entry permutations.entry shortest alpha maximum))) }
 {
     if control::is_outside(control::MOST_LENGTH, shortest.m) {
-        return 2;
+        return Err(Refusal::Length);
     }
     if !control::is_between(0.0, 1.0, alpha) {
-        return 3;
+        return Err(Refusal::Threshold);
     }
-    if !all_finite(maximum, k, base0, base1, base2, deltas0, deltas1, deltas2) {
-        return 4;
+    if !curves.all_finite(maximum) {
+        return Err(Refusal::NotFinite);
     }
-    let l = first_length(k, deltas0);
+    let l = curves.first_length();
     if shortest.too_long_for(l) {
-        return 9;
+        return Err(Refusal::TooShort);
     }
-    if wrong_permutations(p, l, permutations) {
-        return 11;
+    if wrong_permutations(permutations, l) {
+        return Err(Refusal::Permutations);
     }
-    if control::is_outside(MOST_CURVES, k) {
-        return 12;
+    if control::is_outside(MOST_CURVES, curves.k) {
+        return Err(Refusal::Curves);
     }
-    if wrong_lengths(l, k, deltas0, deltas1, deltas2) {
-        return 12;
+    if curves.wrong_lengths(l) {
+        return Err(Refusal::Curves);
     }
-    0
+    Ok(())
 }

@@ -6,5 +6,5 @@ use Rattle.verdict.specs.declared.Asked.{Asked}
 use Rattle.verdict.specs.Rules.{Sized}
 
 -- an earlier stop asks no more
-pub sized_within : (s : Asked) (c stop long : ℕ) → c ≤ stop → Sized s stop long → Sized s c long
-sized_within s c stop long h k = (k.0, omega (arith, k.1), le_trans (mul-le-mul_right s.d (omega arith)) k.2)
+pub sized_within : (s : Asked) (c stop : ℕ) → c ≤ stop → Sized s stop → Sized s c
+sized_within s c stop h k = (k.0, omega (arith, k.1), le_trans (mul-le-mul_right s.gain.d (omega arith)) k.2)
