@@ -1,4 +1,3 @@
 -- Laws that the proofs of the growth share.
-pub mod Judging
 pub mod Growth
 pub mod Segmented

@@ -4,7 +4,6 @@ use mathlib.Core.List.{List, ◌++◌, map}
 use Prim.Native.Nat.{ℕ, zero, suc, ◌-◌, ◌*◌, ◌/◌, ◌≤◌}
 use native.Mathlib.Nat.{zero-add}
 use native.Mathlib.Omega.{arith}
-use lib.Ieee.{Float}
 use lib.ListN.{length}
 use Rattle.control.specs.Settings.{shortest_of}
 use Rattle.scope.specs.Grid.{Record}
@@ -21,42 +20,42 @@ use Rattle.demand.proofs.Records.{labelled_found, segments_are}
 use Rattle.demand.proofs.Demand.{demand}
 use Rattle.binary_segmentation.proofs.Growth.{found_sound, made_few, nodes_long}
 
-module _ (sums : List Float) (forbidden : List ℕ) (s : Asked) (n count : ℕ) (l : Lent) (ready : Ready sums forbidden s n count l) where
+module _ (s : Asked) (n count : ℕ) (l : Lent) (ready : Ready s n count l) where
   abbrev before : Counts
   before = record { nodes = 0; records = count; cuts = 0 }
 
   -- of each run whose stored segments' records stand
-  module _ (segments : List StoredSegment) (stand : Standing (stored_records (run_over sums forbidden s n segments)) l.rows l.gains count) where
+  module _ (segments : List StoredSegment) (stand : Standing (stored_records (run_over s n segments)) l.rows l.gains count) where
     abbrev q : Run
-    q = run_over sums forbidden s n segments
+    q = run_over s n segments
 
     read : stored l count ≡ stored_records q
     read = standing_read (omega (arith, ready.room_rows)) (omega (arith, ready.room_gains)) stand
 
     -- neither n nor the stored segments are read while it is grown
-    same_growth : (k : ℕ) (rs : List Record) (start stop : ℕ) → grow (over sums forbidden s) k rs start stop ≡ grow q k rs start stop
+    same_growth : (k : ℕ) (rs : List Record) (start stop : ℕ) → grow (over s) k rs start stop ≡ grow q k rs start stop
     unfolding grow verdict choice
     same_growth zero rs start stop = refl
     same_growth (suc k) rs start stop = let d = one (direct q start stop) in λ i. parted start stop d (verdict q rs start stop) (λ c. same_growth k (rs ++ d) start c i) (λ c more. same_growth k ((rs ++ d) ++ more) c stop i)
 
-    whole : grow (over sums forbidden s) n (stored l count) 0 n ≡ grown q
+    whole : grow (over s) n (stored l count) 0 n ≡ grown q
     unfolding grown
     whole = rw read (same_growth n (stored_records q) 0 n)
 
-    few : node_count (tree_of q) ≤ most_nodes n (shortest_of s.settings.shortest)
+    few : node_count (tree_of q) ≤ most_nodes n (shortest_of s.settings.allowed.shortest)
     few = (demand q ready.least ready.nonempty).few_nodes
 
-    few_cuts : length (sheet (tree_of q)) ≤ (most_nodes n (shortest_of s.settings.shortest) - 1) / 2
+    few_cuts : length (sheet (tree_of q)) ≤ (most_nodes n (shortest_of s.settings.allowed.shortest) - 1) / 2
     few_cuts = (demand q ready.least ready.nonempty).few_cuts
 
     few_made : length (grown q).made ≤ node_count (tree_of q)
     unfolding grown
     few_made = made_few q n (stored_records q) 0 n
 
-    stored_sound : Sound (shortest_of s.settings.shortest) (stored_records q)
+    stored_sound : Sound (shortest_of s.settings.allowed.shortest) (stored_records q)
     stored_sound r i = let f = segments_are q r i in let g = f.segment in found_sound q g.start g.stop r (labelled_found q g.start g.stop g.origin r f.found)
 
-    fits : Fits (over sums forbidden s) 0 n before l
+    fits : Fits (over s) 0 n before l
     fits = record {
       least = ready.least;
       nonempty = ready.nonempty;
@@ -69,7 +68,7 @@ module _ (sums : List Float) (forbidden : List ℕ) (s : Asked) (n count : ℕ) 
       room_cuts = rw whole (omega (arith, few_cuts, ready.room_cuts));
     }
 
-    module _ (l' : Lent) (next : Counts) (growing : Growing (over sums forbidden s) 0 n before l l' next) where
+    module _ (l' : Lent) (next : Counts) (growing : Growing (over s) 0 n before l l' next) where
       written : Written (grown q) before l l' next
       written = rw whole at (growing.by n (omega arith))
 
@@ -93,8 +92,8 @@ module _ (sums : List Float) (forbidden : List ℕ) (s : Asked) (n count : ℕ) 
             counts = rw (written.next_node, put.told, written.next_cut) (simp zero-add);
           }
 
-  pub whole_fits : Fits (over sums forbidden s) 0 n before l
+  pub whole_fits : Fits (over s) 0 n before l
   whole_fits = fits ready.segments ready.stand
 
-  pub segmented : (l' : Lent) (next : Counts) → Growing (over sums forbidden s) 0 n before l l' next → Segmented sums forbidden s n count l l' next
+  pub segmented : (l' : Lent) (next : Counts) → Growing (over s) 0 n before l l' next → Segmented s n count l l' next
   segmented l' next growing = record { by = λ segments stand. holds segments stand l' next growing }

@@ -76,15 +76,15 @@ pub record Fits (q : Run) (start stop : ℕ) (at : Counts) (l : Lent) : Type 0 w
 
 -- ---- the whole run [0, n)
 -- there is room for it, and the first `count` records are those of some segments
-pub record Ready (sums : List Float) (forbidden : List ℕ) (s : Asked) (n count : ℕ) (l : Lent) : Type 0 where
-  pub least : 1 ≤ s.settings.shortest.m
+pub record Ready (s : Asked) (n count : ℕ) (l : Lent) : Type 0 where
+  pub least : 1 ≤ s.settings.allowed.shortest.m
   pub nonempty : 1 ≤ n
   pub segments : List StoredSegment
-  pub stand : Standing (stored_records (run_over sums forbidden s n segments)) l.rows l.gains count
-  pub room_rows : 5 * (count + most_nodes n (shortest_of s.settings.shortest)) ≤ length l.rows
-  pub room_gains : count + most_nodes n (shortest_of s.settings.shortest) ≤ length l.gains
-  pub room_nodes : most_nodes n (shortest_of s.settings.shortest) ≤ length l.nodes
-  pub room_cuts : (most_nodes n (shortest_of s.settings.shortest) - 1) / 2 ≤ length l.cuts
+  pub stand : Standing (stored_records (run_over s n segments)) l.rows l.gains count
+  pub room_rows : 5 * (count + most_nodes n (shortest_of s.settings.allowed.shortest)) ≤ length l.rows
+  pub room_gains : count + most_nodes n (shortest_of s.settings.allowed.shortest) ≤ length l.gains
+  pub room_nodes : most_nodes n (shortest_of s.settings.allowed.shortest) ≤ length l.nodes
+  pub room_cuts : (most_nodes n (shortest_of s.settings.allowed.shortest) - 1) / 2 ≤ length l.cuts
 
 -- the slices hold what the definitions tell of the run q, and the rest is as it was
 pub record Holds (q : Run) (l l' : Lent) (next : Counts) : Type 0 where
@@ -95,5 +95,5 @@ pub record Holds (q : Run) (l l' : Lent) (next : Counts) : Type 0 where
   pub counts : next ≡ record { nodes = node_count (tree_of q); records = length (records_of q); cuts = length (sheet (tree_of q)) }
 
 -- of each run whose stored segments have these records
-pub record Segmented (sums : List Float) (forbidden : List ℕ) (s : Asked) (n count : ℕ) (l l' : Lent) (next : Counts) : Type 0 where
-  pub by : (segments : List StoredSegment) → Standing (stored_records (run_over sums forbidden s n segments)) l.rows l.gains count → Holds (run_over sums forbidden s n segments) l l' next
+pub record Segmented (s : Asked) (n count : ℕ) (l l' : Lent) (next : Counts) : Type 0 where
+  pub by : (segments : List StoredSegment) → Standing (stored_records (run_over s n segments)) l.rows l.gains count → Holds (run_over s n segments) l l' next

@@ -20,7 +20,7 @@ pub struct Counts {
 }
 
 // A segment once it is judged, and the counts behind its node and its record: the leaf that it is, or the record that cuts it.
-#[derive(Clone, Copy, Debug, PartialEq)]
+#[derive(Clone, Copy)]
 pub enum Judged {
     Uncut(Node, Counts),
     Cut(GainRecord, Counts),
@@ -139,13 +139,5 @@ pub fn binary_segmentation(
         records: count,
         cuts: 0,
     };
-    grow(
-        asked,
-        Segment::run(n),
-        rows,
-        gains,
-        nodes,
-        cuts,
-        before,
-    )
+    grow(asked, Segment::run(n), rows, gains, nodes, cuts, before)
 }

@@ -80,8 +80,8 @@ impl<'a> ChangeInMean<'a> {
 impl<'a> Gain for ChangeInMean<'a> {
     ghost gains = { λ g start stop x. gain_of g.sums.now g.d start stop x };
 
-    // the sums of the row `stop` are there
-    ghost IsKnown = { λ g start stop. (stop + 1) * g.d ≤ length g.sums.now };
+    // at the splits of a segment whose sums are there
+    ghost IsKnown = { λ g start stop x. (start ≤ x) × (x ≤ stop) × (stop ≤ 4096) × ((stop + 1) * g.d ≤ length g.sums.now) };
 
     // The gain of the split of [start, stop): 0 at its ends, else the terms divided by (s*s1)*s2.
     #[tactic(auto, using(crate::proofs::Cumsum::row_in, control::proofs::Sizes::small), unfolding(scope::specs::Gain::gain_of, scope::specs::Gain::inner_gain))]

@@ -4,7 +4,8 @@ use mathlib.Core.Logic.{inl, inr}
 use mathlib.Core.Bool.{false, cond, not, true≢false}
 use mathlib.Core.List.{List, [], ◌∷◌}
 use Rattle.std.specs.List.{fold}
-use Prim.Native.Nat.{ℕ, ◌+◌, ◌-◌, ◌^◌, ◌≤◌, ◌<◌}
+use Rattle.std.specs.Prelude.{Result, Ok, Err, Some, None}
+use Prim.Native.Nat.{ℕ, ◌+◌, ◌-◌, ◌^◌, ◌≤◌, ◌<◌, min}
 use native.Mathlib.Omega.{arith}
 use lib.Dec.{ltb, leb, eqb}
 use lib.IntN.{ℤ}
@@ -17,17 +18,13 @@ use Rattle.token.proofs.Tested.{either, cond_same}
 use Rattle.token.proofs.Parts.{walk, leftover, walk_leftover, fold_same, some_parts, parts_length}
 use Rattle.line.specs.Walk.{nothing, with_cfg, with_pair, with_cell, stored_cell, stored_pair}
 use Rattle.line.specs.Kept.{Kept}
-use Rattle.deck.specs.Walk.{ready, start, after_line, after_row, next_line, turned, step, step_run, Run, run, onto, fed, at_phase, read_of}
+use Rattle.deck.specs.Walk.{State, bad_line, ready, start, after_line, after_row, next_line, turned, step, step_run, Run, run, onto, fed, at_phase, read_of}
 use Rattle.deck.specs.Meaning.{Says, after, Right}
 use Rattle.line.specs.declared.Place.{Place}
 use Rattle.line.specs.declared.Given.{Given}
 use Rattle.deck.specs.declared.Phase.{Phase}
 use Rattle.deck.specs.declared.Phase.TheVariants.{Begun, Barring, Feeding}
-use Rattle.deck.specs.declared.Turn.{Turn}
-use Rattle.deck.specs.declared.Turn.TheVariants.{To}
-use Rattle.deck.specs.declared.State.{State}
-use Rattle.deck.specs.declared.State.TheVariants.{Open, Bad}
-use Rattle.deck.specs.declared.Read.{Read}
+use Rattle.deck.specs.declared.BadLine.{BadLine}
 use Rattle.line.proofs.Heads.{Head, head, field}
 use Rattle.line.proofs.Lines.{is_end, Ends, row_on, line_ends, row_place}
 use Rattle.line.proofs.Held.{kept_start, kept_cfg, kept_pair, kept_cells}
@@ -66,8 +63,8 @@ some_byte b bs =
 
 -- ---- a step is a byte of a line or its LF
 step_parts : (s : State) (b : ℕ) → step s b ≡ cond (eqb b 10) (end s) (more s b)
-step_parts (Open o) b = refl
-step_parts (Bad k) b = sym (cond_same (eqb b 10) (end (Bad k)))
+step_parts (Ok o) b = refl
+step_parts (Err k) b = sym (cond_same (eqb b 10) (end (Err k)))
 
 stepped : (x : Run) (b : ℕ) → step_run x b ≡ walk 10 more_run end_run x b
 stepped x b = ap (onto x) (step_parts x.state b) ∙ either (eqb b 10) (λ t. rw t) (λ t. rw t)
@@ -84,7 +81,7 @@ Blank Begun e = (e.forbidden ≡ []) × (e.cells ≡ [])
 Blank Barring e = Unit {0}
 Blank Feeding e = Unit {0}
 
-lost_after : (ph : Phase) (p : Place) → is_end p ≡ false → after_line ph p ≡ Turn.Malformed
+lost_after : (ph : Phase) (p : Place) → is_end p ≡ false → after_line ph p ≡ None
 lost_after ph Place.Word e = refl
 lost_after ph (Place.Number x) e = refl
 lost_after ph Place.Threshold e = refl
@@ -103,15 +100,15 @@ row_same [] k g a q e s = s
 row_same (z ∷ cs) k g a q e s = row_same cs (k + 1) (with_cell g (not (is_reading z))) (stored_cell g.cells (of_int binary64 z) a) q e s
 
 -- past a malformed line
-bad_run : (l : List ℕ) (x : Run) (j : ℕ) → x.state ≡ Bad j → (fold more_run x l).state ≡ Bad j
+bad_run : (l : List ℕ) (x : Run) (j : BadLine) → x.state ≡ Err j → (fold more_run x l).state ≡ Err j
 bad_run [] x j p = p
 bad_run (b ∷ l) x j p = bad_run l (more_run x b) j (ap (λ (t : State). (more t b).state) p)
 
 module _ (cells₀ : List Float) (forbidden₀ : List ℕ) where
   -- line k is next, and r is what the lines so far give
   data Rep (x : Run) (k : ℕ) (r : Reading) : Type 0 where
-    good : (ph : Phase) (g : Given) (e : Deck) → x.state ≡ ready ph k g → Same g e → Kept cells₀ forbidden₀ g x.cells x.forbidden e.forbidden e.cells → Blank ph e → r ≡ reading ph e → Rep x k r
-    gone : (j : ℕ) → x.state ≡ Bad j → r ≡ bad j → Rep x k r
+    good : (ph : Phase) (g : Given) (e : Deck) → x.state ≡ Ok (ready ph k g) → Same g e → Kept cells₀ forbidden₀ g x.cells x.forbidden e.forbidden e.cells → Blank ph e → r ≡ reading ph e → Rep x k r
+    gone : (j : BadLine) → x.state ≡ Err j → r ≡ bad j.0 → Rep x k r
 
   abbrev SaysOf : Run → Reading → Type 0
   SaysOf x r = Says cells₀ forbidden₀ (read_of x.state) x.cells x.forbidden r
@@ -120,8 +117,8 @@ module _ (cells₀ : List Float) (forbidden₀ : List ℕ) where
     abbrev on_line : Phase → Head → Run
     on_line ph h = run (turned k h.given (after_line ph h.place)) h.cells h.forbidden
 
-    next_line_lem : (ph : Phase) (g : Given) → next_line k g ph ≡ ready ph (k + 1) g
-    next_line_lem ph g = ap (λ (n : ℕ). ready ph n g) (rw (lt-ltb k 18446744073709551615 small))
+    next_line_lem : (ph : Phase) (g : Given) → next_line k g ph ≡ Ok (ready ph (k + 1) g)
+    next_line_lem ph g = let e : min (k + 1) 18446744073709551615 ≡ k + 1 = omega arith in rw e
 
     module _ (g : Given) (e : Deck) (a : List Float) (q : List ℕ) (s : Same g e) (c : Kept cells₀ forbidden₀ g a q e.forbidden e.cells) where
       rep_cfg : (n d m t : ℕ) → Blank Begun e → Rep (on_line Begun (head Place.Cfg (with_cfg g n d m t) a q)) (k + 1) (barring (deck_of n d m t))
@@ -133,7 +130,7 @@ module _ (cells₀ : List Float) (forbidden₀ : List ℕ) where
       rep_no x y =
           good Barring (with_pair g) (deckWithPair e x y) (next_line_lem Barring (with_pair g)) s (kept_pair cells₀ forbidden₀ g a q e.forbidden e.cells c room₂ x y) tt refl
 
-      rep_row : (ph : Phase) (cs : List ℤ) → after_row ph ≡ To Feeding → Rep (on_line ph (row_on cs 0 g a q)) (k + 1) (feeding (with_cells e cs))
+      rep_row : (ph : Phase) (cs : List ℤ) → after_row ph ≡ Some Feeding → Rep (on_line ph (row_on cs 0 g a q)) (k + 1) (feeding (with_cells e cs))
       rep_row ph cs f =
           let h = row_on cs 0 g a q in
           good Feeding h.given (with_cells e cs) (ap (turned k h.given) (ap (after_line ph) (row_place cs 0 g a q) ∙ f) ∙ next_line_lem Feeding h.given) (row_same cs 0 g a q e s)
@@ -141,17 +138,17 @@ module _ (cells₀ : List Float) (forbidden₀ : List ℕ) where
 
       rep_line : (l : Line) (ph : Phase) (h : Head) → Blank ph e → Ends g a q h l → Rep (on_line ph h) (k + 1) (next k (reading ph e) l)
       rep_line (cfg_line n d m t) Begun h b w = rw w (rep_cfg n d m t b)
-      rep_line (cfg_line n d m t) Barring h b w = rw w (gone k refl refl)
-      rep_line (cfg_line n d m t) Feeding h b w = rw w (gone k refl refl)
-      rep_line (no_line x y) Begun h b w = rw w (gone k refl refl)
+      rep_line (cfg_line n d m t) Barring h b w = rw w (gone (bad_line k) refl refl)
+      rep_line (cfg_line n d m t) Feeding h b w = rw w (gone (bad_line k) refl refl)
+      rep_line (no_line x y) Begun h b w = rw w (gone (bad_line k) refl refl)
       rep_line (no_line x y) Barring h b w = rw w (rep_no x y)
-      rep_line (no_line x y) Feeding h b w = rw w (gone k refl refl)
-      rep_line (row_line cs) Begun h b w = rw w (gone k (ap (turned k (row_on cs 0 g a q).given) (ap (after_line Begun) (row_place cs 0 g a q))) refl)
+      rep_line (no_line x y) Feeding h b w = rw w (gone (bad_line k) refl refl)
+      rep_line (row_line cs) Begun h b w = rw w (gone (bad_line k) (ap (turned k (row_on cs 0 g a q).given) (ap (after_line Begun) (row_place cs 0 g a q))) refl)
       rep_line (row_line cs) Barring h b w = rw w (rep_row Barring cs refl)
       rep_line (row_line cs) Feeding h b w = rw w (rep_row Feeding cs refl)
-      rep_line malformed Begun h b w = gone k (ap (turned k h.given) (lost_after Begun h.place w)) refl
-      rep_line malformed Barring h b w = gone k (ap (turned k h.given) (lost_after Barring h.place w)) refl
-      rep_line malformed Feeding h b w = gone k (ap (turned k h.given) (lost_after Feeding h.place w)) refl
+      rep_line malformed Begun h b w = gone (bad_line k) (ap (turned k h.given) (lost_after Begun h.place w)) refl
+      rep_line malformed Barring h b w = gone (bad_line k) (ap (turned k h.given) (lost_after Barring h.place w)) refl
+      rep_line malformed Feeding h b w = gone (bad_line k) (ap (turned k h.given) (lost_after Feeding h.place w)) refl
 
     bad_next : (ph : Phase) (e : Deck) → next k (reading ph e) malformed ≡ bad k
     bad_next Begun e = refl
@@ -163,7 +160,7 @@ module _ (cells₀ : List Float) (forbidden₀ : List ℕ) where
     unfolding read_line
     rep_judged ph g e a q l s c b =
         either (leb 1024 (length l))
-        (λ t. rw (counted l, t, lt-leb (length l + 1) 1024 (omega (arith, leb-true 1024 (length l) t))) (gone k refl (bad_next ph e)))
+        (λ t. rw (counted l, t, lt-leb (length l + 1) 1024 (omega (arith, leb-true 1024 (length l) t))) (gone (bad_line k) refl (bad_next ph e)))
         (λ t. rw (counted l, t, le-leb (length l + 1) 1024 (omega (arith, leb-false 1024 (length l) t))) (rep_line g e a q s c (by_word (parts 9 l)) ph _ b (line_ends g a q (parts 9 l))))
 
     rep_next : (x : Run) (r : Reading) (l : List ℕ) → Rep x k r → Rep (end_run (fold more_run x l)) (k + 1) (next k r (read_line l))
@@ -210,10 +207,7 @@ module _ (cells₀ : List Float) (forbidden₀ : List ℕ) where
         (rep_lines (parts 10 input) (run start cells₀ forbidden₀) 1 begun (rw w.is (omega arith)) (omega (arith, parts_length 10 input)) rep_start)
 
 -- what `finish` answers is right
-pub answer_right : (s : State) (r : Read) → r ≡ read_of s → (r ≡ read_of s) × Right s r
-answer_right s r p = (
-  p,
-  λ input cells₀ forbidden₀ h room room₂ e.
-      let x = after input cells₀ forbidden₀ in
-      subst (λ (a : Read). Says cells₀ forbidden₀ a x.cells x.forbidden (read_input input)) (sym (p ∙ ap read_of e)) (fed_says cells₀ forbidden₀ room room₂ input h),
-)
+pub answer_right : {s : State} {r : Result Given BadLine} → r ≡ read_of s → Right s r
+answer_right p input cells₀ forbidden₀ h room room₂ e =
+    let x = after input cells₀ forbidden₀ in
+    subst (λ (a : Result Given BadLine). Says cells₀ forbidden₀ a x.cells x.forbidden (read_input input)) (sym (p ∙ ap read_of e)) (fed_says cells₀ forbidden₀ room room₂ input h)

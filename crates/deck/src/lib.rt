@@ -4,293 +4,177 @@
 
 ghost use Rattle.std.specs.Prelude.{◌≡◌};
 ghost use Rattle.deck.specs.Meaning.{Right};
-ghost use Rattle.deck.specs.Walk.{tabbed as Walk·tabbed, start as Walk·start, after_cfg, after_no, after_row, after_line, next_line, turned as Walk·turned, judged as Walk·judged, line_end, byte_more, open_step, step as Walk-step, run, fed, at_phase, at_end, read_of};
+ghost use Rattle.deck.specs.Walk.{tabbed as Walk·tabbed, start as Walk·start, ready as Walk·ready, after_line, judged as Walk·judged, line_end, byte_more, open_step, run, fed, at_end, read_of};
 
-use line::{Event, Given, Place};
+use line::{Ended, Event, Given, Place};
 use token::Token;
 
 // A line has at most so many bytes, its LF included.
 const MOST_BYTES: usize = 1024;
 
 // Which lines have been: none, `cfg` and any `no`, or a `row` too.
-#[derive(Clone, Copy)]
+#[derive(Clone, Copy, Debug, PartialEq, Eq)]
 pub enum Phase {
     Begun,
     Barring,
     Feeding,
 }
 
-// What a whole line makes of the phase.
-#[derive(Clone, Copy)]
-enum Turn {
-    To(Phase),
-    Malformed,
-}
+// The number of the first malformed line.
+#[derive(Clone, Copy, Debug, PartialEq, Eq)]
+pub struct BadLine(pub u64);
 
 // In a line: its number, how many bytes it has so far, up to the most, and the field so far.
-#[derive(Clone, Copy)]
+#[derive(Clone, Copy, Debug, PartialEq, Eq)]
 pub struct Open {
     pub phase: Phase,
-    pub number: usize,
+    pub number: u64,
     pub at: usize,
     pub place: Place,
     pub given: Given,
     pub token: Token,
 }
 
-// The state of the input: in a line, or past the first malformed one, of which the number is kept.
-#[derive(Clone, Copy)]
-pub enum State {
-    Open(Open),
-    Bad(usize),
-}
+// The state of the input: in a line, or past the first malformed one.
+pub type State = Result<Open, BadLine>;
 
 // After a byte.
-#[derive(Clone, Copy)]
+#[derive(Clone, Copy, Debug, PartialEq)]
 pub struct Moved {
     pub state: State,
     pub event: Event,
 }
 
-// What a whole input is: malformed, with the number of its first malformed line, or a deck.
-#[derive(Clone, Copy)]
-pub enum Read {
-    Bad(u64),
-    Deck(Given),
+// The phase that a whole line leads to, if it may stand there. Its fields ended at the place.
+fn after_line(phase: Phase, place: Place) -> Option<Phase>
+    ensures { result ≡ after_line phase place }
+{
+    match (phase, place) {
+        (Phase::Begun, Place::Cfg) => Some(Phase::Barring),
+        (Phase::Barring, Place::No) => Some(Phase::Barring),
+        (Phase::Barring | Phase::Feeding, Place::Cells(_)) => Some(Phase::Feeding),
+        _ => None,
+    }
+}
+
+impl Open {
+    // Before the first byte of a line.
+    fn ready(phase: Phase, number: u64, given: Given) -> Open
+        ensures { result ≡ Walk·ready phase number given }
+    {
+        Open {
+            phase,
+            number,
+            at: 0,
+            place: Place::Word,
+            given,
+            token: Token::fresh(),
+        }
+    }
+
+    // The line has ended at the place; at counts the bytes before its LF.
+    fn judged(self, place: Place, given: Given) -> State
+        ensures { result ≡ Walk·judged self place given }
+    {
+        match after_line(self.phase, place) {
+            Some(phase) if self.at < MOST_BYTES => {
+                Ok(Open::ready(phase, self.number.saturating_add(1), given))
+            }
+            _ => Err(BadLine(self.number)),
+        }
+    }
+
+    fn line_end(self) -> Moved
+        ensures { result ≡ line_end self }
+    {
+        let ended = line::field_end(self.place, self.given, self.token);
+        Moved {
+            state: self.judged(ended.place, ended.given),
+            event: ended.event,
+        }
+    }
+
+    fn tabbed(self) -> Moved
+        ensures { result ≡ Walk·tabbed self }
+    {
+        let Ended {
+            place,
+            given,
+            event,
+        } = line::field_end(self.place, self.given, self.token);
+        Moved {
+            state: Ok(Open {
+                at: line::up_to(MOST_BYTES, self.at),
+                place,
+                given,
+                token: Token::fresh(),
+                ..self
+            }),
+            event,
+        }
+    }
+
+    fn byte_more(self, b: u8) -> Moved
+        ensures { result ≡ byte_more self b }
+    {
+        Moved {
+            state: Ok(Open {
+                at: line::up_to(MOST_BYTES, self.at),
+                token: self.token.more(b),
+                ..self
+            }),
+            event: Event::Nothing,
+        }
+    }
+
+    fn step(self, b: u8) -> Moved
+        ensures { result ≡ open_step self b }
+    {
+        match b {
+            b'\n' => self.line_end(),
+            b'\t' => self.tabbed(),
+            _ => self.byte_more(b),
+        }
+    }
+
+    // After the last byte. What follows the last LF is no line, and there must be a `cfg`.
+    fn finish(self) -> Result<Given, BadLine>
+        ensures { result ≡ at_end self }
+    {
+        if self.at == 0 && self.phase != Phase::Begun {
+            Ok(self.given)
+        } else {
+            Err(BadLine(self.number))
+        }
+    }
 }
 
 // Before the first byte.
 pub fn start() -> State
     ensures { result ≡ Walk·start }
 {
-    let given = Given {
-        n: 0,
-        d: 0,
-        m: 0,
-        threshold: 0,
-        pairs: 0,
-        cells: 0,
-        wide: false,
-    };
-    let token = token::fresh();
-    State::Open(Open {
-        phase: Phase::Begun,
-        number: 1,
-        at: 0,
-        place: Place::Word,
-        given,
-        token,
-    })
+    Ok(Open::ready(Phase::Begun, 1, Given::nothing()))
 }
 
-fn after_cfg(phase: Phase) -> Turn
-    ensures { result ≡ after_cfg phase }
+// A lot of bytes, of any size, with what it gives to the lent slices. Past a malformed line it gives nothing.
+pub fn feed(state: State, lot: &[u8], cells: &mut [f64], forbidden: &mut [usize]) -> State
+    ensures state { result ≡ (fed (run state cells.old forbidden.old) lot.now).state }
+    ensures cells { cells.new ≡ (fed (run state cells.old forbidden.old) lot.now).cells }
+    ensures forbidden { forbidden.new ≡ (fed (run state cells.old forbidden.old) lot.now).forbidden }
 {
-    match phase {
-        Phase::Begun => Turn::To(Phase::Barring),
-        Phase::Barring => Turn::Malformed,
-        Phase::Feeding => Turn::Malformed,
+    let mut open = state?;
+    for &b in lot {
+        let moved = open.step(b);
+        line::store(moved.event, cells, forbidden);
+        open = moved.state?;
     }
+    Ok(open)
 }
 
-fn after_no(phase: Phase) -> Turn
-    ensures { result ≡ after_no phase }
+// After the last byte.
+pub fn finish(state: State) -> Result<Given, BadLine>
+    ensures answer { result ≡ read_of state }
+    ensures said { Right state result }
 {
-    match phase {
-        Phase::Begun => Turn::Malformed,
-        Phase::Barring => Turn::To(Phase::Barring),
-        Phase::Feeding => Turn::Malformed,
-    }
-}
-
-fn after_row(phase: Phase) -> Turn
-    ensures { result ≡ after_row phase }
-{
-    match phase {
-        Phase::Begun => Turn::Malformed,
-        Phase::Barring => Turn::To(Phase::Feeding),
-        Phase::Feeding => Turn::To(Phase::Feeding),
-    }
-}
-
-fn after_line(phase: Phase, place: Place) -> Turn
-    ensures { result ≡ after_line phase place }
-{
-    match place {
-        Place::Cfg => after_cfg(phase),
-        Place::No => after_no(phase),
-        Place::Cells(_) => after_row(phase),
-        _ => Turn::Malformed,
-    }
-}
-
-fn next_line(number: usize, given: Given, phase: Phase) -> State
-    ensures { result ≡ next_line number given phase }
-{
-    let token = token::fresh();
-    State::Open(Open {
-        phase,
-        number: line::up_to(usize::MAX, number),
-        at: 0,
-        place: Place::Word,
-        given,
-        token,
-    })
-}
-
-fn turned(number: usize, given: Given, turn: Turn) -> State
-    ensures { result ≡ Walk·turned number given turn }
-{
-    match turn {
-        Turn::To(phase) => next_line(number, given, phase),
-        Turn::Malformed => State::Bad(number),
-    }
-}
-
-// The line has ended at the place; at counts the bytes before its LF.
-fn judged(o: Open, place: Place, given: Given) -> State
-    ensures { result ≡ Walk·judged o place given }
-{
-    if MOST_BYTES <= o.at {
-        return State::Bad(o.number);
-    }
-    let phase = o.phase;
-    turned(o.number, given, after_line(phase, place))
-}
-
-fn line_end(o: Open) -> Moved
-    ensures { result ≡ line_end o }
-{
-    let awaited = o.place;
-    let so_far = o.given;
-    let token = o.token;
-    let e = line::field_end(awaited, so_far, token);
-    let place = e.place;
-    let given = e.given;
-    let event = e.event;
-    Moved {
-        state: judged(o, place, given),
-        event,
-    }
-}
-
-fn tabbed(o: Open) -> Moved
-    ensures { result ≡ Walk·tabbed o }
-{
-    let awaited = o.place;
-    let so_far = o.given;
-    let token = o.token;
-    let e = line::field_end(awaited, so_far, token);
-    let phase = o.phase;
-    let place = e.place;
-    let given = e.given;
-    let event = e.event;
-    let token = token::fresh();
-    Moved {
-        state: State::Open(Open {
-            phase,
-            number: o.number,
-            at: line::up_to(MOST_BYTES, o.at),
-            place,
-            given,
-            token,
-        }),
-        event,
-    }
-}
-
-fn byte_more(o: Open, b: u8) -> Moved
-    ensures { result ≡ byte_more o b }
-{
-    let phase = o.phase;
-    let place = o.place;
-    let given = o.given;
-    let so_far = o.token;
-    let token = token::token_more(so_far, b);
-    Moved {
-        state: State::Open(Open {
-            phase,
-            number: o.number,
-            at: line::up_to(MOST_BYTES, o.at),
-            place,
-            given,
-            token,
-        }),
-        event: Event::Nothing,
-    }
-}
-
-fn open_step(o: Open, b: u8) -> Moved
-    ensures { result ≡ open_step o b }
-{
-    if b == b'\n' {
-        return line_end(o);
-    }
-    if b == b'\t' {
-        return tabbed(o);
-    }
-    byte_more(o, b)
-}
-
-fn step(s: State, b: u8) -> Moved
-    ensures { result ≡ Walk-step s b }
-{
-    match s {
-        State::Open(o) => open_step(o, b),
-        State::Bad(number) => Moved {
-            state: State::Bad(number),
-            event: Event::Nothing,
-        },
-    }
-}
-
-// A lot of bytes, of any size, with what it gives to the lent slices.
-pub fn feed(s: State, lot: &[u8], cells: &mut [f64], forbidden: &mut [usize]) -> State
-    ensures state { result ≡ (fed (run s cells.old forbidden.old) lot.now).state }
-    ensures cells { cells.new ≡ (fed (run s cells.old forbidden.old) lot.now).cells }
-    ensures forbidden { forbidden.new ≡ (fed (run s cells.old forbidden.old) lot.now).forbidden }
-{
-    let mut t = s;
-    let mut i = 0;
-    while i < lot.len() {
-        let moved = step(t, lot[i]);
-        let event = moved.event;
-        line::store(event, cells, forbidden);
-        let next = moved.state;
-        t = next;
-        i += 1;
-    }
-    t
-}
-
-fn at_phase(phase: Phase, number: usize, given: Given) -> Read
-    ensures { result ≡ at_phase phase number given }
-{
-    match phase {
-        Phase::Begun => Read::Bad(number as u64),
-        Phase::Barring => Read::Deck(given),
-        Phase::Feeding => Read::Deck(given),
-    }
-}
-
-fn at_end(o: Open) -> Read
-    ensures { result ≡ at_end o }
-{
-    if o.at != 0 {
-        return Read::Bad(o.number as u64);
-    }
-    let phase = o.phase;
-    let given = o.given;
-    at_phase(phase, o.number, given)
-}
-
-// After the last byte. What follows the last LF is no line, and there must be a `cfg`.
-pub fn finish(s: State) -> Read
-    ensures answer { result ≡ read_of s }
-    ensures said { Right s result }
-{
-    match s {
-        State::Open(o) => at_end(o),
-        State::Bad(number) => Read::Bad(number as u64),
-    }
+    state.and_then(|open| open.finish())
 }

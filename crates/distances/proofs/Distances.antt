@@ -16,7 +16,7 @@ use Rattle.scope.specs.Neighbours.{distances, order_of, orders}
 use Rattle.scope.proofs.Signs.{length_distances}
 use Rattle.scope.proofs.Ordering.{ordered_length, no_NaN}
 use Rattle.order.specs.Rows.{Numeric}
-use Rattle.distances.specs.Matrix.{Matrix, Filled}
+use Rattle.distances.specs.Matrix.{Orderable, Filled}
 
 -- row i of n lies in the table
 pub row_in : (i n d l : ℕ) → i < n → l ≡ n * d → i * d + d ≤ l
@@ -26,7 +26,7 @@ row_in i n d l h e = omega (arith, mul-le-mul_right d h, add-mul i 1 d)
 pub square_small : (i n : ℕ) → i < n → n ≤ 1024 → i * n + n ≤ 1048576
 square_small i n h k = omega (arith, row_in i n n (n * n) h refl, mul-le-mul_right n k)
 
-pub distances_numeric : (cells : List Float) (n d : ℕ) → Matrix cells n d → (i : ℕ) → i < n → Numeric (distances cells d i n)
+pub distances_numeric : (cells : List Float) (n d : ℕ) → Orderable cells n d → (i : ℕ) → i < n → Numeric (distances cells d i n)
 distances_numeric cells n d m i h j = go (dec_lt j n)
   where
     go : Dec (j < n) → numeric (get_or (distances cells d i n) j +0) ≡ true

@@ -10,11 +10,11 @@ use Rattle.scope.specs.Lists.{every}
 use Rattle.scope.specs.Calls.{OrderingAsked, ordering_tests, ordering_refusal, PredictAsked, predict_tests, predict_refusal}
 use Rattle.control.proofs.Sizes.{matrix, segment}
 use Rattle.control.proofs.Clean.{passed, answers}
-use Rattle.distances.specs.Matrix.{Matrix as Neighbours}
+use Rattle.distances.specs.Matrix.{Orderable}
 
 -- ---- neighbours
 pub record OrderingClean (a : OrderingAsked) : Type 0 where
-  pub shape : Neighbours a.matrix.cells a.matrix.n a.matrix.d
+  pub shape : Orderable a.matrix.cells a.matrix.n a.matrix.d
   pub orders_fit : a.matrix.n * a.matrix.n ≤ a.ordering
   pub distances_fit : a.matrix.n ≤ a.distances
 

@@ -1,62 +1,43 @@
 // Nearest neighbours: each row's order of all rows, and the predictions for a segment.
-// Entry points: whatever is passed in, each ends with an answer or with the number of a refusal, which has changed no lent memory. None has a `requires`.
+// Entry points: whatever is passed in, each ends with an answer or with a refusal, which has changed no lent memory. None has a `requires`.
 #![tactic(auto)]
 
 mod refusals;
 
+ghost use Rattle.control.specs.Refused.{number_in};
+ghost use Rattle.control.specs.Settings.{matrix_of};
 ghost use Rattle.entry_neighbours.specs.Left.{OrderingLeft, PredictLeft};
 
-use rows::Position;
+use control::{Matrix, Refusal};
+use rows::{Position, Segment};
 
 // Each row's order of all rows by distance, equal ones by lower index, into `ordering`, row after row; the last row's distances are left
-// in `distances`. Answers 0 or the refusal's number.
-pub fn ordering(
-    cells: &[f64],
-    n: usize,
-    d: usize,
-    ordering: &mut [u32],
-    distances: &mut [f64],
-) -> u32
-    ensures { OrderingLeft (record { cells = cells.now; n = n; d = d }) result (record { ordering = ordering.old; distances = distances.old }) (record { ordering = ordering.new; distances = distances.new }) }
+// in `distances`.
+#[tactic(auto, unfolding(scope::specs::Calls::ordering_call))]
+pub fn ordering(matrix: Matrix, ordering: &mut [u32], distances: &mut [f64]) -> Result<(), Refusal>
+    ensures { OrderingLeft (matrix_of matrix.entry) (number_in result) (record { ordering = ordering.old; distances = distances.old }) (record { ordering = ordering.new; distances = distances.new }) }
 {
-    let no = refusals::ordering_refusal(cells, n, d, ordering.len(), distances.len());
-    if no != 0 {
-        return no;
-    }
-    distances::calculate_ordering(cells, n, d, ordering, distances);
-    0
+    refusals::ordering_refusal(matrix, ordering.len(), distances.len())?;
+    distances::calculate_ordering(matrix, ordering, distances);
+    Ok(())
 }
 
-// For each row of [start, stop), the share of its nearest neighbours there that stand at or past `split`, into `predictions`; the
-// ordering's room is filled first. Answers 0 or the refusal's number.
+// For each row of the segment, the share of its nearest neighbours there that stand at or past `split`, into `predictions`; the
+// ordering's room is filled first.
+#[tactic(auto, unfolding(scope::specs::Calls::predict_call))]
 pub fn predict(
-    cells: &[f64],
-    n: usize,
-    d: usize,
-    start: Position,
-    stop: Position,
+    matrix: Matrix,
+    segment: Segment,
     split: Position,
     ordering: &mut [u32],
     distances: &mut [f64],
     predictions: &mut [f64],
-) -> u32
-    ensures { PredictLeft (record { cells = cells.now; n = n; d = d }) start.0 stop.0 split.0 result (record { order = record { ordering = ordering.old; distances = distances.old }; predictions = predictions.old }) (record { order = record { ordering = ordering.new; distances = distances.new }; predictions = predictions.new }) }
+) -> Result<(), Refusal>
+    ensures { PredictLeft (matrix_of matrix.entry) segment.start.0 segment.stop.0 split.0 (number_in result) (record { order = record { ordering = ordering.old; distances = distances.old }; predictions = predictions.old }) (record { order = record { ordering = ordering.new; distances = distances.new }; predictions = predictions.new }) }
 {
-    let no = refusals::predict_refusal(
-        cells,
-        n,
-        d,
-        start,
-        stop,
-        split,
-        ordering.len(),
-        distances.len(),
-        predictions.len(),
-    );
-    if no != 0 {
-        return no;
-    }
-    distances::calculate_ordering(cells, n, d, ordering, distances);
-    knn::predict(cells, n, d, ordering, start, stop, split, predictions);
-    0
+    let (orders, last, room) = (ordering.len(), distances.len(), predictions.len());
+    refusals::predict_refusal(matrix, segment, split, orders, last, room)?;
+    distances::calculate_ordering(matrix, ordering, distances);
+    knn::predict(matrix, segment, split, ordering, predictions);
+    Ok(())
 }

@@ -1,67 +1,56 @@
-// The numbers that apply to a call about neighbours, or 0: in number order, before anything is stored.
-ghost use Rattle.std.specs.Prelude.{◌≡◌, ◌-◌};
+// The refusals that apply to a call about neighbours: the lowest number first, before anything is stored.
+ghost use Rattle.std.specs.Prelude.{◌≡◌};
 ghost use Rattle.scope.specs.Calls.{ordering_refusal, predict_refusal};
+ghost use Rattle.control.specs.Refused.{number_in};
+ghost use Rattle.control.specs.Settings.{matrix_of};
 
-use rows::Position;
+use control::{Matrix, Refusal};
+use rows::{Position, Segment};
 
-// Of a call for the ordering.
-pub fn ordering_refusal(cells: &[f64], n: usize, d: usize, ordering: usize, distances: usize) -> u32
-    ensures { result ≡ ordering_refusal (record { matrix = record { cells = cells.now; n = n; d = d }; ordering = ordering; distances = distances }) }
+// Of a call for the ordering, with room for so many rows of orders and so many distances.
+#[tactic(auto, unfolding(scope::specs::Calls::ordering_refusal))]
+pub fn ordering_refusal(matrix: Matrix, ordering: usize, distances: usize) -> Result<(), Refusal>
+    ensures { number_in result ≡ ordering_refusal (record { matrix = matrix_of matrix.entry; ordering = ordering; distances = distances }) }
 {
-    if control::wrong_matrix(cells, n, d, control::MOST_NEIGHBOURS) {
-        return 1;
+    if control::wrong_matrix(matrix, control::MOST_NEIGHBOURS) {
+        return Err(Refusal::Sizes);
     }
-    if !control::all_finite(cells) {
-        return 4;
+    if !control::all_finite(matrix.cells) {
+        return Err(Refusal::NotFinite);
     }
-    if ordering < n * n {
-        return 7;
+    if ordering < matrix.n * matrix.n {
+        return Err(Refusal::Room);
     }
-    if distances < n {
-        return 7;
+    if distances < matrix.n {
+        return Err(Refusal::Room);
     }
-    0
+    Ok(())
 }
 
-// How many rows a segment has, 0 if start > stop.
-fn segment_len(start: Position, stop: Position) -> usize
-    ensures { result ≡ stop.0 - start.0 }
-{
-    if stop.0 < start.0 {
-        return 0;
-    }
-    stop.0 - start.0
-}
-
-// Of a call for predictions.
+// Of a call for predictions, with room for so many of them.
+#[tactic(auto, unfolding(scope::specs::Calls::ordering_refusal, scope::specs::Calls::predict_refusal))]
 pub fn predict_refusal(
-    cells: &[f64],
-    n: usize,
-    d: usize,
-    start: Position,
-    stop: Position,
+    matrix: Matrix,
+    segment: Segment,
     split: Position,
     ordering: usize,
     distances: usize,
     room: usize,
-) -> u32
-    ensures { result ≡ predict_refusal (record { order = record { matrix = record { cells = cells.now; n = n; d = d }; ordering = ordering; distances = distances }; start = start.0; stop = stop.0; split = split.0; room = room }) }
+) -> Result<(), Refusal>
+    ensures { number_in result ≡ predict_refusal (record { order = record { matrix = matrix_of matrix.entry; ordering = ordering; distances = distances }; start = segment.start.0; stop = segment.stop.0; split = split.0; room = room }) }
 {
-    let no = ordering_refusal(cells, n, d, ordering, distances);
-    if no != 0 {
-        return no;
+    ordering_refusal(matrix, ordering, distances)?;
+    if room < segment.length() {
+        return Err(Refusal::Room);
     }
-    if room < segment_len(start, stop) {
-        return 7;
+    if control::wrong_segment(matrix.n, segment) {
+        return Err(Refusal::Segment);
     }
-    if control::wrong_segment(n, start, stop) {
-        return 8;
+    if control::wrong_split(segment, split) {
+        return Err(Refusal::Segment);
     }
-    if control::wrong_split(start, stop, split) {
-        return 8;
+    if segment.start == segment.stop {
+        return Err(Refusal::Segment);
     }
-    if start.0 == stop.0 {
-        return 8;
-    }
-    0
+    Ok(())
 }

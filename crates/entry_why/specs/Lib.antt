@@ -1,3 +1,2 @@
--- For the enum that is answered with: this paper's number and values for each of its cases. What the call leaves.
-pub mod Answers
+-- What the call leaves.
 pub mod Left

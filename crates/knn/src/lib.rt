@@ -1,78 +1,54 @@
 // k nearest neighbours: the share of a row's k nearest that stand at or past a split. Inside the library. After classifier/knn.rs.
 #![tactic(auto)]
 
-ghost use Rattle.std.specs.Prelude.{◌≡◌, ◌-◌, ◌<◌, ◌≤◌, not, ◌&&◌, leb, ltb, eqb, length};
-ghost use Rattle.scope.specs.Rounding.{whole_root};
-ghost use Rattle.scope.specs.Lists.{holding, select};
+ghost use Rattle.std.specs.Prelude.{◌≡◌, ◌-◌, ◌<◌, ◌≤◌, leb, length, filter, take};
+ghost use Rattle.scope.specs.Lists.{holding};
 ghost use Rattle.scope.specs.Neighbours as scope;
 ghost use Rattle.distances.specs.Matrix.{Filled};
+ghost use Rattle.knn.specs.Near.{is_near};
 
+use control::Matrix;
 use rounding::whole_root;
-use rows::{Offset, Position};
+use rows::{Offset, Position, Segment};
 
-// Whether `other` can be a neighbour of `row`: a row of the segment [start, stop), and not the row itself.
-fn is_neighbour(other: Position, row: Position, start: Position, stop: Position) -> bool
-    ensures { result ≡ (not (eqb other.0 row.0) && (leb start.0 other.0 && ltb other.0 stop.0)) }
+// Whether `other` can be a neighbour of `row`: a row of the segment, and not the row itself.
+fn is_neighbour(segment: Segment, row: Position, other: Position) -> bool
+    ensures { result ≡ is_near segment.start.0 segment.stop.0 row.0 other.0 }
 {
-    if other.0 == row.0 {
-        return false;
-    }
-    start.0 <= other.0 && other.0 < stop.0
+    other != row && segment.start <= other && other < segment.stop
 }
 
-// How many of a row's k nearest neighbours in the segment [start, stop) stand at or past the split. The row itself is dropped from its order, wherever it
+// How many of a row's k nearest neighbours in the segment stand at or past the split. The row itself is dropped from its order, wherever it
 // stands.
-fn count_past(
-    order: &[u32],
-    row: Position,
-    start: Position,
-    stop: Position,
-    split: Position,
-    k: usize,
-) -> usize
-    requires { (length order.now ≤ 1024) × (k ≡ whole_root (stop.0 - start.0)) }
-    ensures count { result ≡ length (select (leb split.0) (scope.neighbours start.0 stop.0 row.0 order.now)) }
-    ensures few { result ≤ k }
+fn count_past(order: &[u32], segment: Segment, row: Position, split: Position, k: usize) -> usize
+    ensures { result ≡ length (filter (leb split.0) (take k (filter (is_near segment.start.0 segment.stop.0 row.0) order.now))) }
 {
-    let mut seen = 0;
-    let mut count = 0;
-    for at in 0..order.len() {
-        if seen == k {
-            return count;
-        }
-        let other = Position(order[at] as usize);
-        if is_neighbour(other, row, start, stop) {
-            seen += 1;
-            if split.0 <= other.0 {
-                count += 1;
-            }
-        }
-    }
-    count
+    order
+        .iter()
+        .filter(|other| is_neighbour(segment, row, Position(**other as usize)))
+        .take(k)
+        .filter(|other| split <= Position(**other as usize))
+        .count()
 }
 
-// For each row of the segment [start, stop) the share of its neighbours that stand at or past the split. That `ordering` holds the orders of
-// `cells` is for the caller to see to: only the contract reads `cells` and `d`.
+// For each row of the segment the share of its neighbours that stand at or past the split. That `ordering` holds the orders of
+// the matrix is for the caller to see to: only the contract reads `matrix.cells` and `matrix.d`.
 pub fn predict(
-    cells: &[f64],
-    n: usize,
-    d: usize,
-    ordering: &[u32],
-    start: Position,
-    stop: Position,
+    matrix: Matrix,
+    segment: Segment,
     split: Position,
+    ordering: &[u32],
     predictions: &mut [f64],
 )
-    requires { Filled cells.now n d ordering.now × (start.0 < stop.0) × (stop.0 ≤ n) × (stop.0 - start.0 ≤ length predictions.old) }
-    ensures { predictions.new ≡ holding (scope.predictions cells.now n d start.0 stop.0 split.0 (stop.0 - start.0)) predictions.old }
+    requires { Filled matrix.cells.now matrix.n matrix.d ordering.now × (segment.start.0 < segment.stop.0) × (segment.stop.0 ≤ matrix.n) × (segment.stop.0 - segment.start.0 ≤ length predictions.old) }
+    ensures { predictions.new ≡ holding (scope.predictions matrix.entry.cells.now matrix.entry.n matrix.entry.d segment.start.0 segment.stop.0 split.0 (segment.stop.0 - segment.start.0)) predictions.old }
 {
-    let segment_length = stop.offset_in(start).0;
-    let k = whole_root(segment_length);
-    for i in 0..segment_length {
-        let row = Offset(i).position_from(start);
-        let first = row.0 * n;
-        let end = first + n;
-        let count = count_past(&ordering[first..end], row, start, stop, split, k);
+    let k = whole_root(segment.length());
+    for i in 0..segment.length() {
+        let row = Offset(i).position_from(segment.start);
+        let first = row.0 * matrix.n;
+        let end = first + matrix.n;
+        let count = count_past(&ordering[first..end], segment, row, split, k);
         predictions[i] = (count as f64) / (k as f64);
     }
 }

@@ -4,9 +4,10 @@ use mathlib.Core.List.Memᴰ
 use Rattle.scope.specs.Lists.{upward, select, keep, holding, ◌∈◌}
 use Rattle.scope.specs.Asked.{Shortest}
 use Rattle.scope.specs.Candidates.{is_barred, first_row, range_size, candidates}
-use Rattle.scope.proofs.Candidates.{candidates_are, one_at_most}
+use Rattle.scope.proofs.Candidates.{candidates_are}
 use Rattle.scope.proofs.Lists.{store_more, length_upward}
-use Rattle.optimizer.specs.Left.{free_between}
+use Rattle.optimizer.specs.Left.{free_between, Each}
+use Rattle.scope.specs.Allowed.{Allowed}
 
 upward_front : (lo k : ℕ) → upward lo (suc k) ≡ lo ∷ upward (lo + 1) k
 unfolding upward
@@ -29,17 +30,13 @@ module _ (ps : List ℕ) (a e : ℕ) where
   pub free_first : a < e → is_barred ps a ≡ false → free_between ps a e ≡ a ∷ free_between ps (a + 1) e
   free_first l h = front false h l
 
--- ---- the candidates of a segment lie within it, and are no more than its range has rows
-abbrev pub Within : ℕ → ℕ → List ℕ → Type 0
-Within a e [] = Unit {0}
-Within a e (x ∷ xs) = (a ≤ x) × (x ≤ e) × Within a e xs
+-- ---- the candidates are the allowed rows, and no more than the range has rows
+each_member : (P : ℕ → Type 0) (l : List ℕ) → ((x : ℕ) → x ∈ l → P x) → Each P l
+each_member P [] h = tt
+each_member P (x ∷ l) h = (h x (Memᴰ.head refl), each_member P l (λ y m. h y (Memᴰ.tail m)))
 
-members_within : (a e : ℕ) (l : List ℕ) → ((x : ℕ) → x ∈ l → (a ≤ x) × (x ≤ e)) → Within a e l
-members_within a e [] h = tt
-members_within a e (x ∷ l) h = let (i, j) = h x (Memᴰ.head refl) in (i, j, members_within a e l (λ y m. h y (Memᴰ.tail m)))
-
-pub candidates_within : (s : Shortest) (ps : List ℕ) (a e : ℕ) → Within a e (candidates s ps a e)
-candidates_within s ps a e = members_within a e (candidates s ps a e) (λ x m. let w = (candidates_are s ps a e x).0 m in let l = w.low in let h = w.high in (omega arith, omega (arith, one_at_most s)))
+pub each_candidate : (P : ℕ → Type 0) (s : Shortest) (ps : List ℕ) (a e : ℕ) → ((x : ℕ) → Allowed s ps a e x → P x) → Each P (candidates s ps a e)
+each_candidate P s ps a e h = each_member P (candidates s ps a e) (λ x m. h x ((candidates_are s ps a e x).0 m))
 
 few : (p : ℕ → Bool) (l : List ℕ) → length (select p l) ≤ length l
 unfolding select

@@ -2,69 +2,49 @@
 ghost use Rattle.std.specs.Prelude.{◌≡◌};
 ghost use Rattle.scope.specs.Refusals.{first_of};
 ghost use Rattle.scope.specs.Feed.{fed_run_tests, fed_refusal};
+ghost use Rattle.control.specs.Refused.{number_in};
 ghost use Rattle.control.specs.Settings.{settings_of};
 ghost use Rattle.feed.specs.States.{state_of};
-ghost use Rattle.prepared.specs.Answers.{FedPrepares};
+ghost use Rattle.prepared.specs.Answers.{room_of, FedPrepares};
 
-use crate::Prepared;
-use control::Settings;
+use change_in_mean::ChangeInMean;
+use control::{Refusal, Settings};
+use crate::{Prepared, Room};
 use feed::State;
 
-// The number up to 6 that applies to the later sheet of a fed run, or 0: there are no cells to judge.
-fn run_refusal(
-    state: State,
-    settings: Settings,
-    forbidden: &[usize],
-    layers: &[f64],
-    draws: &[usize],
-    w: usize,
-) -> u32
-    ensures { result ≡ first_of (fed_run_tests (state_of state) (settings_of settings forbidden.now (record { layers = layers.now; draws = draws.now; W = w }))) }
+// What the later sheet of a fed run is refused for up to 6: there are no cells to judge.
+fn run_refusal(state: State, settings: Settings) -> Result<(), Refusal>
+    ensures { number_in result ≡ first_of (fed_run_tests (state_of state) (settings_of settings.entry)) }
 {
     if control::wrong_sizes(state.n, state.d, control::MOST_ROWS) {
-        return 1;
+        return Err(Refusal::Sizes);
     }
-    let shortest = settings.shortest;
-    if control::is_outside(control::MOST_LENGTH, shortest.m) {
-        return 2;
+    if control::is_outside(control::MOST_LENGTH, settings.allowed.shortest.m) {
+        return Err(Refusal::Length);
     }
-    if control::is_nan(settings.threshold) {
-        return 3;
+    if settings.threshold.is_nan() {
+        return Err(Refusal::Threshold);
     }
-    if !control::well_paired(forbidden) {
-        return 5;
+    if !control::well_paired(settings.allowed.forbidden) {
+        return Err(Refusal::Pairs);
     }
-    draws::source_refusal(layers, draws, w)
+    draws::source_refusal(settings.source)
 }
 
-// The number that applies to the later sheet of a fed run, or 0.
-pub fn refusal(
-    state: State,
-    settings: Settings,
-    forbidden: &[usize],
-    layers: &[f64],
-    draws: &[usize],
-    w: usize,
-    sums: usize,
-    records: usize,
-    nodes: usize,
-    cuts: usize,
-) -> u32
-    ensures { result ≡ fed_refusal (state_of state) (settings_of settings forbidden.now (record { layers = layers.now; draws = draws.now; W = w })) (record { sums = sums; records = records; nodes = nodes; cuts = cuts }) }
+// What the later sheet of a fed run is refused for.
+pub fn refusal(state: State, settings: Settings, room: Room) -> Result<(), Refusal>
+    ensures { number_in result ≡ fed_refusal (state_of state) (settings_of settings.entry) (room_of room) }
 {
-    let run = run_refusal(state, settings, forbidden, layers, draws, w);
-    if run != 0 {
-        return run;
-    }
-    let n = state.n;
-    let d = state.d;
-    let shortest = settings.shortest;
-    let room = crate::room_refusal(n, d, shortest, layers, draws, w, sums, records, nodes, cuts);
-    if room != 0 {
-        return room;
-    }
-    if draws::any_past(draws, n) {
-        return 8;
+    run_refusal(state, settings)?;
+    crate::room_refusal(
+        state.n,
+        state.d,
+        settings.allowed.shortest,
+        settings.source,
+        room,
+    )?;
+    if draws::any_past(settings.source.draws, state.n) {
+        return Err(Refusal::Segment);
     }
     state.count_refusal()
 }
@@ -74,48 +54,32 @@ pub fn prepare(
     sums: &[f64],
     state: State,
     settings: Settings,
-    forbidden: &[usize],
-    layers: &[f64],
-    draws: &[usize],
-    w: usize,
     rows: &mut [usize],
     gains: &mut [f64],
     nodes: usize,
     cuts: usize,
-) -> Prepared
-    ensures { FedPrepares (state_of state) (settings_of settings forbidden.now (record { layers = layers.now; draws = draws.now; W = w })) nodes cuts result (record { sums = sums.now; rows = rows.old; gains = gains.old }) (record { sums = sums.now; rows = rows.new; gains = gains.new }) }
+) -> Result<Prepared, Refusal>
+    ensures { FedPrepares (state_of state) (settings_of settings.entry) nodes cuts result (record { sums = sums.now; rows = rows.old; gains = gains.old }) (record { sums = sums.now; rows = rows.new; gains = gains.new }) }
 {
-    let room = control::record_room(rows.len(), gains.len());
-    let no = refusal(
-        state,
-        settings,
-        forbidden,
-        layers,
-        draws,
-        w,
-        sums.len(),
-        room,
+    let room = Room {
+        sums: sums.len(),
+        records: control::record_room(rows.len(), gains.len()),
         nodes,
         cuts,
-    );
-    if no != 0 {
-        return Prepared::Refused(no);
-    }
-    let n = state.n;
-    let d = state.d;
-    let shortest = settings.shortest;
-    let len = control::sums_len(n, d);
-    let records = segmentation::store_records(
-        &sums[..len],
-        n,
-        d,
-        shortest,
-        forbidden,
-        layers,
-        draws,
-        w,
+    };
+    refusal(state, settings, room)?;
+    let len = control::sums_len(state.n, state.d);
+    let gain = ChangeInMean {
+        sums: &sums[..len],
+        d: state.d,
+    };
+    let stored = segmentation::store_records(
+        gain,
+        state.n,
+        settings.allowed,
+        settings.source,
         rows,
         gains,
     );
-    Prepared::Stored(len, records)
+    Ok(Prepared { len, stored })
 }

@@ -5,152 +5,116 @@
 ghost use Rattle.std.specs.Prelude.{◌≡◌, false, ◌≤◌};
 ghost use Rattle.scope.specs.Refusals.{first_of, wrong_layers};
 ghost use Rattle.scope.specs.Calls.{run_tests, room_tests, tree_refusal};
-ghost use Rattle.control.specs.Settings.{shortest_of, settings_of};
-ghost use Rattle.prepared.specs.Answers.{tree_asked, TreePrepares};
+ghost use Rattle.control.specs.Refused.{number_in};
+ghost use Rattle.control.specs.Settings.{matrix_of, shortest_of, source_of, settings_of};
+ghost use Rattle.prepared.specs.Answers.{room_of, tree_asked, TreePrepares};
 
-use control::{Settings, Shortest};
+use control::{Matrix, Refusal, Settings, Shortest, Source};
 
 pub mod fed;
 
-// The number up to 6 that applies to a run, or 0: what every call that judges segments by a threshold is refused for first.
-pub fn run_refusal(
-    cells: &[f64],
-    n: usize,
-    d: usize,
-    settings: Settings,
-    forbidden: &[usize],
-    layers: &[f64],
-    draws: &[usize],
-    w: usize,
-) -> u32
-    ensures { result ≡ first_of (run_tests (record { cells = cells.now; n = n; d = d }) (settings_of settings forbidden.now (record { layers = layers.now; draws = draws.now; W = w }))) }
-{
-    let shortest = settings.shortest;
-    let sizes = control::sizes_refusal(cells, n, d, shortest);
-    if sizes != 0 {
-        return sizes;
-    }
-    if control::is_nan(settings.threshold) {
-        return 3;
-    }
-    let values = control::values_refusal(cells, forbidden);
-    if values != 0 {
-        return values;
-    }
-    draws::source_refusal(layers, draws, w)
+// The lent room, counted: prefix sums, records, nodes and cuts.
+#[derive(Clone, Copy, Debug, PartialEq, Eq)]
+pub struct Room {
+    pub sums: usize,
+    pub records: usize,
+    pub nodes: usize,
+    pub cuts: usize,
 }
 
-// 7: the number that applies to the room of a tree, or 0: B nodes and (B-1)/2 cuts at most, and a record for each node beside those of the stored segments.
+// How many prefix sums stand, and how many records the stored segments left.
+#[derive(Clone, Copy, Debug, PartialEq, Eq)]
+pub struct Prepared {
+    pub len: usize,
+    pub stored: usize,
+}
+
+// What a run is refused for up to 6: what every call that judges segments by a threshold is refused for first.
+pub fn run_refusal(matrix: Matrix, settings: Settings) -> Result<(), Refusal>
+    ensures { number_in result ≡ first_of (run_tests (matrix_of matrix.entry) (settings_of settings.entry)) }
+{
+    control::sizes_refusal(matrix, settings.allowed.shortest)?;
+    if settings.threshold.is_nan() {
+        return Err(Refusal::Threshold);
+    }
+    control::values_refusal(matrix.cells, settings.allowed.forbidden)?;
+    draws::source_refusal(settings.source)
+}
+
+// The room of a tree: B nodes and (B-1)/2 cuts at most, and a record for each node beside those of the stored segments.
 pub fn room_refusal(
     n: usize,
     d: usize,
     shortest: Shortest,
-    layers: &[f64],
-    draws: &[usize],
-    w: usize,
-    sums: usize,
-    records: usize,
-    nodes: usize,
-    cuts: usize,
-) -> u32
-    requires { (n ≤ 4096) × (d ≤ 64) × (1 ≤ shortest.m) × (wrong_layers layers.now ≡ false) × (w ≤ 4096) }
-    ensures { result ≡ first_of (room_tests n d (shortest_of shortest) (record { layers = layers.now; draws = draws.now; W = w }) (record { sums = sums; records = records; nodes = nodes; cuts = cuts })) }
+    source: Source,
+    room: Room,
+) -> Result<(), Refusal>
+    requires { (n ≤ 4096) × (d ≤ 64) × (1 ≤ shortest.m) × (wrong_layers source.layers.now ≡ false) × (source.w ≤ 4096) }
+    ensures { number_in result ≡ first_of (room_tests n d (shortest_of shortest) (source_of source.entry) (room_of room)) }
 {
-    if sums < control::sums_len(n, d) {
-        return 7;
+    if room.sums < control::sums_len(n, d) {
+        return Err(Refusal::Room);
     }
     let most = control::most_nodes(n, shortest);
-    if records < draws::most_stored(layers, draws, w) + most {
-        return 7;
+    if room.records < draws::most_stored(source) + most {
+        return Err(Refusal::Room);
     }
-    if nodes < most {
-        return 7;
+    if room.nodes < most {
+        return Err(Refusal::Room);
     }
-    if cuts < (most - 1) / 2 {
-        return 7;
+    if room.cuts < (most - 1) / 2 {
+        return Err(Refusal::Room);
     }
-    0
+    Ok(())
 }
 
-// The number that applies to a call for the tree, or 0.
-pub fn tree_refusal(
-    cells: &[f64],
-    n: usize,
-    d: usize,
-    settings: Settings,
-    forbidden: &[usize],
-    layers: &[f64],
-    draws: &[usize],
-    w: usize,
-    sums: usize,
-    records: usize,
-    nodes: usize,
-    cuts: usize,
-) -> u32
-    ensures { result ≡ tree_refusal (record { matrix = record { cells = cells.now; n = n; d = d }; settings = settings_of settings forbidden.now (record { layers = layers.now; draws = draws.now; W = w }); room = record { sums = sums; records = records; nodes = nodes; cuts = cuts } }) }
+// What a call for the tree is refused for.
+pub fn tree_refusal(matrix: Matrix, settings: Settings, room: Room) -> Result<(), Refusal>
+    ensures { number_in result ≡ tree_refusal (record { matrix = matrix_of matrix.entry; settings = settings_of settings.entry; room = room_of room }) }
 {
-    let run = run_refusal(cells, n, d, settings, forbidden, layers, draws, w);
-    if run != 0 {
-        return run;
+    run_refusal(matrix, settings)?;
+    room_refusal(
+        matrix.n,
+        matrix.d,
+        settings.allowed.shortest,
+        settings.source,
+        room,
+    )?;
+    if draws::any_past(settings.source.draws, matrix.n) {
+        return Err(Refusal::Segment);
     }
-    let shortest = settings.shortest;
-    let room = room_refusal(n, d, shortest, layers, draws, w, sums, records, nodes, cuts);
-    if room != 0 {
-        return room;
-    }
-    if draws::any_past(draws, n) {
-        return 8;
-    }
-    0
-}
-
-// How many prefix sums there are, and how many records the stored segments left; or the refusal's number.
-#[derive(Clone, Copy)]
-pub enum Prepared {
-    Stored(usize, usize),
-    Refused(u32),
+    Ok(())
 }
 
 // Judges every refusal of a call for the tree; then the prefix sums and the stored segments' records, which the tree is grown behind.
 pub fn prepare(
-    cells: &[f64],
-    n: usize,
-    d: usize,
+    matrix: Matrix,
     settings: Settings,
-    forbidden: &[usize],
-    layers: &[f64],
-    draws: &[usize],
-    w: usize,
     sums: &mut [f64],
     rows: &mut [usize],
     gains: &mut [f64],
     nodes: usize,
     cuts: usize,
-) -> Prepared
-    ensures { TreePrepares (tree_asked (record { cells = cells.now; n = n; d = d }) (settings_of settings forbidden.now (record { layers = layers.now; draws = draws.now; W = w })) (record { sums = sums.old; rows = rows.old; gains = gains.old }) nodes cuts) result (record { sums = sums.old; rows = rows.old; gains = gains.old }) (record { sums = sums.new; rows = rows.new; gains = gains.new }) }
+) -> Result<Prepared, Refusal>
+    ensures { TreePrepares (tree_asked (matrix_of matrix.entry) (settings_of settings.entry) (record { sums = sums.old; rows = rows.old; gains = gains.old }) nodes cuts) result (record { sums = sums.old; rows = rows.old; gains = gains.old }) (record { sums = sums.new; rows = rows.new; gains = gains.new }) }
 {
-    let room = control::record_room(rows.len(), gains.len());
-    let no = tree_refusal(
-        cells,
-        n,
-        d,
-        settings,
-        forbidden,
-        layers,
-        draws,
-        w,
-        sums.len(),
-        room,
+    let room = Room {
+        sums: sums.len(),
+        records: control::record_room(rows.len(), gains.len()),
         nodes,
         cuts,
+    };
+    tree_refusal(matrix, settings, room)?;
+    let stored = segmentation::store_segments(
+        matrix,
+        settings.allowed,
+        settings.source,
+        sums,
+        rows,
+        gains,
     );
-    if no != 0 {
-        return Prepared::Refused(no);
-    }
-    let shortest = settings.shortest;
-    let records = segmentation::store_segments(
-        cells, n, d, shortest, forbidden, layers, draws, w, sums, rows, gains,
-    );
-    let len = control::sums_len(n, d);
-    Prepared::Stored(len, records)
+    Ok(Prepared {
+        len: control::sums_len(matrix.n, matrix.d),
+        stored,
+    })
 }

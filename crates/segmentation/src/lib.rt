@@ -161,7 +161,7 @@ pub fn store_records(
 }
 
 // The refusal that applies to a call for the stored segments' records: each takes five whole numbers and one gain.
-#[tactic(auto, unfolding(scope::specs::Calls::stored_refusal))]
+#[tactic(auto, using(crate::proofs::Clean::by_source, crate::proofs::Clean::sizes_passed), unfolding(scope::specs::Calls::stored_refusal))]
 pub fn stored_refusal(
     matrix: Matrix,
     allowed: Allowed,

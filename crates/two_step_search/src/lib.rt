@@ -1,301 +1,191 @@
 // The pick of a split from a lent gain curve, and the guesses that curves are made from. Inside the library. After optimizer/two_step_search.rs.
 #![tactic(auto)]
 
-ghost use Rattle.std.specs.Prelude.{◌≡◌, cond, [], ◌∷◌, ◌++◌, ◌+◌, ◌-◌, ◌*◌, ◌<◌, ◌≤◌, length, get_or};
+ghost use Rattle.std.specs.Prelude.{◌≡◌, [], ◌∷◌, ◌++◌, ◌+◌, ◌-◌, ◌*◌, ◌<◌, ◌≤◌, length, get_or};
 ghost use Rattle.std.proofs.Math.Option.{some, none};
-ghost use Rattle.scope.specs.Candidates.{candidates as candidatesOf};
+ghost use Rattle.scope.specs.Candidates.{candidates};
 ghost use Rattle.scope.specs.Curves.{picked, is_member, guesses};
 ghost use Rattle.scope.specs.Lists.{at, keep};
 ghost use Rattle.scope.specs.Refusals.{first_of};
 ghost use Rattle.scope.specs.Calls.{guesses_tests, pick_tests};
+ghost use Rattle.control.specs.Refused.{number_in};
 ghost use Rattle.control.specs.Settings.{shortest_of};
 ghost use Rattle.optimizer.specs.Records.{to_record};
-ghost use Rattle.two_step_search.specs.Guessed.{rows_of, guesses_in};
+ghost use Rattle.two_step_search.specs.Guessed.{rows_of};
 
-use control::Shortest;
+use control::{Allowed, Refusal, Shortest};
 use optimizer::candidates;
+use optimizer::candidates::Candidates;
+use optimizer::gain::{Gain, greatest};
 use optimizer::optimizer_result::GainRecord;
-use rows::{Offset, Position};
+use rows::{Offset, Position, Segment};
 
 // Whether a row is a candidate.
-pub fn is_candidate(
-    forbidden: &[usize],
-    shortest: Shortest,
-    start: Position,
-    stop: Position,
-    row: Position,
-) -> bool
-    requires { (start.0 ≤ stop.0) × (stop.0 ≤ 4096) × (shortest.m ≤ 4096) }
-    ensures { result ≡ is_member row.0 (candidatesOf (shortest_of shortest) forbidden.now start.0 stop.0) }
+#[tactic(auto, using(crate::proofs::Guessing::member_below, crate::proofs::Guessing::member_above, crate::proofs::Guessing::member_inside))]
+pub fn is_candidate(allowed: Allowed, segment: Segment, row: Position) -> bool
+    requires { (segment.start.0 ≤ segment.stop.0) × (segment.stop.0 ≤ 4096) × (allowed.shortest.m ≤ 4096) }
+    ensures { result ≡ is_member row.0 (candidates (shortest_of allowed.entry.shortest) allowed.entry.forbidden.now segment.start.0 segment.stop.0) }
 {
-    let first = candidates::range_row(shortest, start, 0);
-    let size = candidates::range_size(shortest, start, stop);
-    if row.0 < first.0 {
-        return false;
-    }
-    if size <= row.offset_in(first).0 {
-        return false;
-    }
-    !candidates::is_barred(forbidden, row)
+    let first = candidates::range_row(allowed.shortest, segment.start, 0);
+    let size = candidates::range_size(allowed.shortest, segment);
+    first <= row && row.offset_in(first).0 < size && !candidates::is_barred(allowed.forbidden, row)
 }
 
-// The curve's value at an offset of the segment.
-fn value_at(curve: &[f64], offset: Offset) -> f64
-    requires { offset.0 < length curve.now }
-    ensures { result ≡ at curve.now offset.0 }
-{
-    let i = offset.0;
-    curve[i]
+// A lent gain curve: an entry for each row of a segment.
+#[derive(Clone, Copy)]
+struct Curve<'a>(&'a [f64]);
+
+impl<'a> Gain for Curve<'a> {
+    ghost gains = { λ g start stop x. at g.0.now (x - start) };
+
+    ghost IsKnown = { λ g start stop x. (start ≤ x) × (x - start < length g.0.now) };
+
+    // The curve's value at the row's offset.
+    fn gain(&self, segment: Segment, split: Position) -> f64 {
+        self.0[split.offset_in(segment.start).0]
+    }
 }
 
 // The candidate with the greatest value of the curve, the first if several are equal; the guess and minus infinity if there is none.
+#[tactic(auto, unfolding(scope::specs::Curves::picked))]
 pub fn single_find_best_split(
     curve: &[f64],
-    shortest: Shortest,
-    forbidden: &[usize],
-    start: Position,
-    stop: Position,
+    allowed: Allowed,
+    segment: Segment,
     guess: Position,
 ) -> GainRecord
-    requires start_le_stop { (start.0 ≤ stop.0) × (stop.0 ≤ 4096) × (1 ≤ shortest.m) × (shortest.m ≤ 4096) }
-    requires curve_len { length curve.now ≡ stop.0 - start.0 }
-    ensures { to_record result ≡ picked (shortest_of shortest) forbidden.now start.0 stop.0 guess.0 curve.now }
+    requires start_le_stop { (segment.start.0 ≤ segment.stop.0) × (segment.stop.0 ≤ 4096) × (1 ≤ allowed.shortest.m) × (allowed.shortest.m ≤ 4096) }
+    requires curve_len { length curve.now ≡ segment.stop.0 - segment.start.0 }
+    ensures { to_record result ≡ picked (shortest_of allowed.entry.shortest) allowed.entry.forbidden.now segment.start.0 segment.stop.0 guess.0 curve.now }
 {
-    let size = candidates::range_size(shortest, start, stop);
-    let mut record = GainRecord::guessed(start, stop, guess);
-    let mut k = 0;
-    while k < size {
-        let split = candidates::range_row(shortest, start, k);
-        if !candidates::is_barred(forbidden, split) {
-            record = record.better(split, value_at(curve, split.offset_in(start)));
-        }
-        k += 1;
-    }
-    record
+    let from = GainRecord::guessed(segment, guess);
+    greatest(&Curve(curve), allowed, segment, from)
 }
 
-// One to three guesses, by value; what lies beyond the count repeats the last.
-#[derive(Clone, Copy)]
-pub struct Guesses {
-    pub count: usize,
-    pub first: Position,
-    pub second: Position,
-    pub third: Position,
+// Up to three guesses, by value.
+#[derive(Clone, Copy, Debug, PartialEq, Eq)]
+pub enum Guesses {
+    NoGuess,
+    One(Position),
+    Two(Position, Position),
+    Three(Position, Position, Position),
 }
 
 impl Guesses {
-    // No guess yet.
-    pub fn none() -> Guesses
-        ensures { (result.count ≡ 0) × (rows_of result ≡ []) × (result ≡ guesses_in []) }
+    // How many there are.
+    pub fn count(self) -> usize
+        ensures { result ≡ length (rows_of self) }
     {
-        Guesses {
-            count: 0,
-            first: Position(0),
-            second: Position(0),
-            third: Position(0),
+        match self {
+            Guesses::NoGuess => 0,
+            Guesses::One(_) => 1,
+            Guesses::Two(..) => 2,
+            Guesses::Three(..) => 3,
         }
     }
 
-    // One guess more.
-    pub fn with(self, row: Position) -> Guesses
-        requires { self.count < 3 }
-        ensures { (result.count ≡ self.count + 1) × (rows_of result ≡ rows_of self ++ (row.0 ∷ [])) × (result ≡ guesses_in (rows_of result)) }
+    // One guess more, if it is kept.
+    fn and_if(self, keeps: bool, row: Position) -> Guesses
+        requires { length (rows_of self) < 3 }
+        ensures { rows_of result ≡ rows_of self ++ keep keeps row.0 [] }
     {
-        let first = self.first;
-        let second = self.second;
-        if self.count == 0 {
-            return Guesses {
-                count: 1,
-                first: row,
-                second: row,
-                third: row,
-            };
+        if !keeps {
+            return self;
         }
-        if self.count == 1 {
-            return Guesses {
-                count: 2,
-                first,
-                second: row,
-                third: row,
-            };
-        }
-        Guesses {
-            count: 3,
-            first,
-            second,
-            third: row,
+        match self {
+            Guesses::NoGuess => Guesses::One(row),
+            Guesses::One(first) => Guesses::Two(first, row),
+            Guesses::Two(first, second) | Guesses::Three(first, second, _) => {
+                Guesses::Three(first, second, row)
+            }
         }
     }
+}
+
+// The candidate number i, from 0; row 0 if there are no more than i.
+fn candidate_number(allowed: Allowed, segment: Segment, i: usize) -> Position
+    requires { (segment.start.0 ≤ segment.stop.0) × (segment.stop.0 ≤ 4096) × (allowed.shortest.m ≤ 4096) }
+    ensures { result.0 ≡ get_or (candidates (shortest_of allowed.entry.shortest) allowed.entry.forbidden.now segment.start.0 segment.stop.0) i 0 }
+{
+    Candidates::of(allowed, segment)
+        .nth(i)
+        .unwrap_or(Position(0))
 }
 
 // How many candidates there are.
-fn count_candidates(
-    forbidden: &[usize],
-    shortest: Shortest,
-    start: Position,
-    stop: Position,
-) -> usize
-    requires { (start.0 ≤ stop.0) × (stop.0 ≤ 4096) × (shortest.m ≤ 4096) }
-    ensures { result ≡ length (candidatesOf (shortest_of shortest) forbidden.now start.0 stop.0) }
+#[tactic(auto, using(crate::proofs::Guessing::few_rows))]
+fn count_candidates(allowed: Allowed, segment: Segment) -> usize
+    requires { (segment.start.0 ≤ segment.stop.0) × (segment.stop.0 ≤ 4096) × (allowed.shortest.m ≤ 4096) }
+    ensures counted { result ≡ length (candidates (shortest_of allowed.entry.shortest) allowed.entry.forbidden.now segment.start.0 segment.stop.0) }
+    ensures few { result ≤ 4097 }
 {
-    let size = candidates::range_size(shortest, start, stop);
-    let mut count = 0;
-    let mut k = 0;
-    while k < size {
-        if !candidates::is_barred(forbidden, candidates::range_row(shortest, start, k)) {
-            count += 1;
-        }
-        k += 1;
-    }
-    count
-}
-
-// The candidate number i, from 0.
-fn candidate_number(
-    forbidden: &[usize],
-    shortest: Shortest,
-    start: Position,
-    stop: Position,
-    i: usize,
-) -> Position
-    requires start_le_stop { (start.0 ≤ stop.0) × (stop.0 ≤ 4096) × (shortest.m ≤ 4096) }
-    requires i_in_bounds { i < length (candidatesOf (shortest_of shortest) forbidden.now start.0 stop.0) }
-    ensures { result.0 ≡ get_or (candidatesOf (shortest_of shortest) forbidden.now start.0 stop.0) i 0 }
-{
-    let size = candidates::range_size(shortest, start, stop);
-    let mut seen = 0;
-    let mut k = 0;
-    while k < size {
-        let row = candidates::range_row(shortest, start, k);
-        if !candidates::is_barred(forbidden, row) {
-            if seen == i {
-                return row;
-            }
-            seen += 1;
-        }
-        k += 1;
-    }
-    Position(0)
+    Candidates::of(allowed, segment).count()
 }
 
 // The guesses with a forbidden list, even an empty one: candidates number c/4, c/2 and 3c/4 of c, each only if above the last kept.
-pub fn guesses_listed(
-    forbidden: &[usize],
-    shortest: Shortest,
-    start: Position,
-    stop: Position,
-) -> Guesses
-    requires start_le_stop { (start.0 ≤ stop.0) × (stop.0 ≤ 4096) × (shortest.m ≤ 4096) }
-    requires nonzero { 0 < length (candidatesOf (shortest_of shortest) forbidden.now start.0 stop.0) }
-    ensures { result ≡ guesses_in (guesses (shortest_of shortest) (some forbidden.now) start.0 stop.0) }
+#[tactic(auto, unfolding(scope::specs::Curves::guesses))]
+pub fn guesses_listed(allowed: Allowed, segment: Segment) -> Guesses
+    requires start_le_stop { (segment.start.0 ≤ segment.stop.0) × (segment.stop.0 ≤ 4096) × (allowed.shortest.m ≤ 4096) }
+    requires nonzero { 0 < length (candidates (shortest_of allowed.shortest) allowed.forbidden.now segment.start.0 segment.stop.0) }
+    ensures { rows_of result ≡ guesses (shortest_of allowed.entry.shortest) (some allowed.entry.forbidden.now) segment.start.0 segment.stop.0 }
 {
-    let c = count_candidates(forbidden, shortest, start, stop);
-    let first = candidate_number(forbidden, shortest, start, stop, c / 4);
-    let second = candidate_number(forbidden, shortest, start, stop, c / 2);
-    let third = candidate_number(forbidden, shortest, start, stop, 3 * c / 4);
-    let guess = Guesses::none().with(first);
-    if first.0 < second.0 {
-        let two = guess.with(second);
-        if second.0 < third.0 {
-            return two.with(third);
+    let c = count_candidates(allowed, segment);
+    let first = candidate_number(allowed, segment, c / 4);
+    let second = candidate_number(allowed, segment, c / 2);
+    let third = candidate_number(allowed, segment, 3 * c / 4);
+    if first < second {
+        if second < third {
+            return Guesses::Three(first, second, third);
         }
-        return two;
+        return Guesses::Two(first, second);
     }
-    if first.0 < third.0 {
-        return guess.with(third);
+    if first < third {
+        return Guesses::Two(first, third);
     }
-    guess
-}
-
-// The guess, if it is kept.
-fn kept(guesses: Guesses, keeps: bool, row: Position) -> Guesses
-    requires { (guesses.count < 3) × (guesses ≡ guesses_in (rows_of guesses)) }
-    ensures { (result.count ≤ guesses.count + 1) × (rows_of result ≡ rows_of guesses ++ keep keeps row.0 []) × (result ≡ guesses_in (rows_of result)) }
-{
-    if keeps {
-        return guesses.with(row);
-    }
-    guesses
+    Guesses::One(first)
 }
 
 // The guesses without a forbidden list: (3a+b)/4, (a+b)/2, (a+3b)/4 of start a and stop b, which stand a quarter, a half and three quarters
-// of the segment past its start, keeping candidates. The list is empty.
-pub fn guesses_between(
-    empty: &[usize],
-    shortest: Shortest,
-    start: Position,
-    stop: Position,
-) -> Guesses
-    requires start_le_stop { (start.0 ≤ stop.0) × (stop.0 ≤ 4096) × (shortest.m ≤ 4096) }
-    requires empty_value { empty.now ≡ [] }
-    ensures { result ≡ guesses_in (guesses (shortest_of shortest) none start.0 stop.0) }
+// of the segment past its start, keeping candidates.
+#[tactic(auto, unfolding(scope::specs::Curves::guesses))]
+pub fn guesses_between(shortest: Shortest, segment: Segment) -> Guesses
+    requires { (segment.start.0 ≤ segment.stop.0) × (segment.stop.0 ≤ 4096) × (shortest.m ≤ 4096) }
+    ensures { rows_of result ≡ guesses (shortest_of shortest) none segment.start.0 segment.stop.0 }
 {
-    let long = stop.offset_in(start).0;
-    let first = Offset(long / 4).position_from(start);
-    let second = Offset(long / 2).position_from(start);
-    let third = Offset(3 * long / 4).position_from(start);
-    let one = kept(
-        Guesses::none(),
-        is_candidate(empty, shortest, start, stop, first),
-        first,
-    );
-    let two = kept(
-        one,
-        is_candidate(empty, shortest, start, stop, second),
-        second,
-    );
-    kept(
-        two,
-        is_candidate(empty, shortest, start, stop, third),
-        third,
-    )
+    let allowed = Allowed {
+        shortest,
+        forbidden: &[],
+    };
+    let long = segment.length();
+    let first = Offset(long / 4).position_from(segment.start);
+    let second = Offset(long / 2).position_from(segment.start);
+    let third = Offset(3 * long / 4).position_from(segment.start);
+    let one = Guesses::NoGuess.and_if(is_candidate(allowed, segment, first), first);
+    let two = one.and_if(is_candidate(allowed, segment, second), second);
+    two.and_if(is_candidate(allowed, segment, third), third)
 }
 
-// How much of a forbidden list is looked at: all of it if it is given, else nothing.
-pub fn listed_len(given: bool, len: usize) -> usize
-    ensures { result ≡ cond given len 0 }
+// The refusal that applies to a call for guesses; the forbidden list is empty if none is given.
+pub fn guesses_refusal(n: usize, allowed: Allowed, segment: Segment) -> Result<(), Refusal>
+    ensures { number_in result ≡ first_of (guesses_tests (record { n = n; shortest = shortest_of allowed.entry.shortest; forbidden = some allowed.entry.forbidden.now; start = segment.start.0; stop = segment.stop.0 })) }
 {
-    if given { len } else { 0 }
+    control::rows_refusal(n, allowed)?;
+    candidates::segment_refusal(n, allowed, segment)
 }
 
-// The number that applies to a call for guesses, or 0; `forbidden` is the list if it is given, else empty.
-pub fn guesses_refusal(
-    n: usize,
-    shortest: Shortest,
-    forbidden: &[usize],
-    start: Position,
-    stop: Position,
-) -> u32
-    ensures { result ≡ first_of (guesses_tests (record { n = n; shortest = shortest_of shortest; forbidden = some forbidden.now; start = start.0; stop = stop.0 })) }
-{
-    let no = control::rows_refusal(n, shortest, forbidden);
-    if no != 0 {
-        return no;
-    }
-    candidates::segment_refusal(n, shortest, forbidden, start, stop)
-}
-
-// The number that applies to a call for a pick, or 0.
+// The refusal that applies to a call for a pick.
 pub fn pick_refusal(
     n: usize,
-    shortest: Shortest,
-    forbidden: &[usize],
-    start: Position,
-    stop: Position,
+    allowed: Allowed,
+    segment: Segment,
     guess: Position,
     curve: &[f64],
-) -> u32
-    ensures { result ≡ first_of (pick_tests (record { n = n; shortest = shortest_of shortest; forbidden = forbidden.now; start = start.0; stop = stop.0; guess = guess.0; curve = curve.now })) }
+) -> Result<(), Refusal>
+    ensures { number_in result ≡ first_of (pick_tests (record { n = n; shortest = shortest_of allowed.entry.shortest; forbidden = allowed.entry.forbidden.now; start = segment.start.0; stop = segment.stop.0; guess = guess.0; curve = curve.now })) }
 {
-    let no = guesses_refusal(n, shortest, forbidden, start, stop);
-    if no != 0 {
-        return no;
+    guesses_refusal(n, allowed, segment)?;
+    if !is_candidate(allowed, segment, guess) || curve.len() != segment.length() {
+        return Err(Refusal::Curves);
     }
-    if !is_candidate(forbidden, shortest, start, stop, guess) {
-        return 12;
-    }
-    if curve.len() != stop.0 - start.0 {
-        return 12;
-    }
-    0
+    Ok(())
 }

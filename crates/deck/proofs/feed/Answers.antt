@@ -1,27 +1,26 @@
--- `feed` meets its contract: a walk over the lot. What is fed from its start is what is fed from the next byte on, after the bytes so far.
-use mathlib.Core.Path.{◌∙◌, sym, ap}
-use Prim.Native.Nat.{◌≤◌, ◌<◌}
-use native.Mathlib.Omega.{arith}
-use lib.ListN.{length}
-use Rattle.deck.specs.Walk.{Run, run}
-use Rattle.deck.proofs.Fed.{fed_next, fed_none}
+-- `feed` meets its contract: a walk over the lot, which ends early at a malformed line.
+use Rattle.std.proofs.Common.{◌≡◌, ◌∙◌, Err, arith, rules}
+use Rattle.deck.proofs.Fed.{fed_next, fed_none, fed_lost, came}
 use Rattle.deck.proofs.feed.Goals as goal
 
-pub loop-i-preserved : goal.loop-i-preserved
-loop-i-preserved c =
-    let lot = c.args.lot.now in
-    let store = c.store in
-    let moved = c.step-moved in
-    let h : c.loop-i.i < length lot = omega arith in (
-      omega arith,
-      store.auto.cells ∙ c.loop-i.invariant.1,
-      store.auto.forbidden ∙ c.loop-i.invariant.2,
-      rw (store.ensures.cells_after, store.ensures.forbidden_after, moved.ensures) (c.loop-i.invariant.3 ∙ fed_next (run c.loop-i.t c.loop-i.cells c.loop-i.forbidden) lot c.loop-i.i h),
-    )
+pub returns-in_err-open : goal.returns-in_err-open
+returns-in_err-open c =
+    let bad : c.from_residual.result ≡ Err c.in_err-open.field-0.0 = search rules in
+    let e = came (rw (c.in_err-open.was, bad) (fed_lost c.in_err-open.field-0.0 c.args.cells.now c.args.forbidden.now c.args.lot.now)) in
+    record { state = e.0; cells = e.1; forbidden = e.2 }
+
+pub returns-in_err-open-2 : goal.returns-in_err-open-2
+returns-in_err-open-2 c =
+    let bad : c.from_residual-in_err-open-2.result ≡ Err c.in_err-open-2.field-0.0 = search rules in
+    let next = fed_next _ _ _ _ _ c.loop-b.invariant c.loop-b-test.true c.step-moved.ensures c.store.ensures.cells_after c.store.ensures.forbidden_after in
+    let e = came (rw (c.in_ok-open.was, bad) (rw c.in_err-open-2.was at next ∙ fed_lost c.in_err-open-2.field-0.0 _ _ _)) in
+    record { state = e.0; cells = e.1; forbidden = e.2 }
+
+pub loop-b-preserved : goal.loop-b-preserved
+loop-b-preserved c =
+    rw (← c.in_ok-open-2.was) (fed_next _ _ _ _ _ c.loop-b.invariant c.loop-b-test.true c.step-moved.ensures c.store.ensures.cells_after c.store.ensures.forbidden_after)
 
 pub returns : goal.returns
 returns c =
-    let lot = c.args.lot.now in
-    let h : length lot ≤ c.loop-i.i = omega arith in
-    let e = c.loop-i.invariant.3 ∙ fed_none (run c.loop-i.t c.loop-i.cells c.loop-i.forbidden) lot c.loop-i.i h in
-    record { state = sym (ap (λ (x : Run). x.state) e); cells = sym (ap (λ (x : Run). x.cells) e); forbidden = sym (ap (λ (x : Run). x.forbidden) e) }
+    let e = came (rw c.in_ok-open.was (c.loop-b.invariant ∙ fed_none _ c.args.lot.now c.loop-b.b-index (omega arith))) in
+    record { state = e.0; cells = e.1; forbidden = e.2 }

@@ -1,16 +1,7 @@
--- What the loop of `feed` keeps.
-use mathlib.Core.Path.{◌≡◌}
-use Prim.Native.Nat.{◌≤◌, ◌-◌}
-use lib.ListN.{length, drop}
+-- What the loop of `feed` keeps: what the whole lot comes to is what the bytes so far and those behind them come to.
+use Rattle.std.proofs.Common.{◌≡◌, drop, Ok}
 use Rattle.deck.specs.Walk.{run, fed}
 use Rattle.deck.proofs.feed.Given as goal
 
-abbrev pub invariant-loop-i : goal.invariant-loop-i
-invariant-loop-i l =
-    (l.i ≤ length l.lot)
-    × (length l.cells ≡ length l.initial.cells)
-    × (length l.forbidden ≡ length l.initial.forbidden)
-    × (fed (run l.initial.t l.initial.cells l.initial.forbidden) l.lot ≡ fed (run l.t l.cells l.forbidden) (drop l.i l.lot))
-
-abbrev pub decreases-loop-i : goal.decreases-loop-i
-decreases-loop-i l = length l.lot - l.i
+abbrev pub invariant-loop-b : goal.invariant-loop-b
+invariant-loop-b l = fed (run (Ok l.initial.open) l.initial.cells l.initial.forbidden) l.lot ≡ fed (run (Ok l.open) l.cells l.forbidden) (drop l.b-index l.lot)

@@ -1,10 +1,8 @@
--- `finish` meets its contract: variant by variant, and the answer is right.
-use Rattle.deck.specs.declared.Read.{Read}
+-- `finish` meets its contract: the answer is right.
+use Rattle.std.proofs.Common.{◌≡◌, rules}
+use Rattle.deck.specs.Walk.{read_of}
 use Rattle.deck.proofs.Whole.{answer_right}
 use Rattle.deck.proofs.finish.Goals as goal
 
-pub returns-in-Open-clause-said : goal.returns-in-Open-clause-said
-returns-in-Open-clause-said c = (answer_right c.args.s c.at_end.result (rw c.in-Open.is c.at_end.ensures)).1
-
-pub returns-in-Bad-clause-said : goal.returns-in-Bad-clause-said
-returns-in-Bad-clause-said c = (answer_right c.args.s (Read.Bad c.in-Bad.number) (rw c.in-Bad.is)).1
+pub returns-clause-said : goal.returns-clause-said
+returns-clause-said c = let answer : c.and_then.result ≡ read_of c.args.state = search rules in answer_right answer

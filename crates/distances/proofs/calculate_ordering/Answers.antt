@@ -1,4 +1,4 @@
--- `classifier::knn::calculate_ordering` meets its contract. After i turns the first i orders stand, and the distances of the row before. Assumes nothing.
+-- `calculate_ordering` meets its contract. After i turns the first i orders stand, and the distances of the row before. Assumes nothing.
 use mathlib.Core.Path.{◌≡◌, refl, sym, ap, ◌∙◌}
 use mathlib.Core.List.{List, ◌++◌}
 use Prim.Native.Nat.{ℕ, suc, ◌+◌, ◌-◌, ◌*◌, ◌≤◌, ◌<◌}
@@ -12,20 +12,14 @@ use lib.Seq.{take_at, drop_at, length-take-le}
 use Rattle.scope.specs.Lists.{holding}
 use Rattle.scope.specs.Neighbours.{distances, ordered, order_of, orders}
 use Rattle.order.specs.Rows.{Numeric}
-use Rattle.distances.specs.Matrix.{Matrix}
+use Rattle.distances.specs.Matrix.{Orderable}
 use Rattle.order.proofs.Parts.{put_more}
 use Rattle.scope.proofs.Signs.{length_distances}
-use Rattle.distances.proofs.Distances.{row_in, square_small, length_orders, distances_numeric}
+use Rattle.distances.proofs.Distances.{row_in, length_orders, distances_numeric}
 use Rattle.distances.proofs.calculate_ordering.Goals as goal
-use Rattle.distances.proofs.calculate_ordering.Lts as lts
-use Rattle.distances.proofs.calculate_ordering.Tie as tie
-use Rattle.distances.proofs.calculate_ordering.Reads as reads
 use Rattle.distances.proofs.calculate_ordering.Invariants.{State}
 
-abbrev At-In-loop-i : Type 0
-At-In-loop-i = lts.In-loop tie.the-claims reads.Pre reads.Post goal.the-invariant-loop-i goal.the-decreases-loop-i tie.handed_clauses
-
-start : {cells : List Float} {n d : ℕ} {ordering : List ℕ} {ds : List Float} → Matrix cells n d × (n * n ≤ length ordering) × (n ≤ length ds) → State cells n d ordering ordering ds ds 0
+start : {cells : List Float} {n d : ℕ} {ordering : List ℕ} {ds : List Float} → Orderable cells n d × (n * n ≤ length ordering) × (n ≤ length ds) → State cells n d ordering ordering ds ds 0
 unfolding orders
 start {n = n} p = record { matrix = p.0; room = p.1; width = p.2; turns = omega arith; long = refl; wide = refl; held = rw (zero-mul n); last = λ k e. absurd (omega arith); kept = refl }
 
@@ -84,10 +78,6 @@ module _ {cells : List Float} {n d : ℕ} {ordering₀ ordering : List ℕ} {ds�
       let e : i ≡ n = omega (arith, s.turns) in
       let k : i ≡ suc (n - 1) = omega (arith, s.matrix.some) in
       (rw (e, ← length_orders cells n d n) at s.held, sym (take-append-drop n ds) ∙ rw (s.last (n - 1) k, s.kept, length_distances cells d (n - 1) n))
-
--- the row that a turn stores
-row_small : (c : At-In-loop-i) → c.loop-i.i * c.args.n + c.args.n ≤ 1048576
-row_small c = square_small _ _ c.loop-i-test.true c.loop-i.invariant.matrix.rows
 
 pub distances_from-requires : goal.distances_from-requires
 distances_from-requires c =

@@ -1,15 +1,15 @@
 -- What the loop of `calculate_ordering` keeps.
 use mathlib.Core.Path.{◌≡◌}
 use mathlib.Core.List.{List, ◌++◌}
-use Prim.Native.Nat.{ℕ, suc, ◌-◌, ◌*◌, ◌≤◌}
+use Prim.Native.Nat.{ℕ, suc, ◌*◌, ◌≤◌}
 use lib.Ieee.{Float}
 use lib.ListN.{length, take, drop}
 use Rattle.scope.specs.Neighbours.{distances, orders}
-use Rattle.distances.specs.Matrix.{Matrix}
+use Rattle.distances.specs.Matrix.{Orderable}
 use Rattle.distances.proofs.calculate_ordering.Given as goal
 
 pub record State (cells : List Float) (n d : ℕ) (ordering₀ ordering : List ℕ) (ds₀ ds : List Float) (i : ℕ) : Type 0 where
-  pub matrix : Matrix cells n d
+  pub matrix : Orderable cells n d
   pub room : n * n ≤ length ordering₀
   pub width : n ≤ length ds₀
   pub turns : i ≤ n
@@ -20,7 +20,4 @@ pub record State (cells : List Float) (n d : ℕ) (ordering₀ ordering : List �
   pub kept : drop n ds ≡ drop n ds₀
 
 abbrev pub invariant-loop-i : goal.invariant-loop-i
-invariant-loop-i l = State l.cells l.n l.d l.initial.ordering l.ordering l.initial.distances l.distances l.i
-
-abbrev pub decreases-loop-i : goal.decreases-loop-i
-decreases-loop-i l = l.n - l.i
+invariant-loop-i l = State l.matrix.cells.now l.matrix.n l.matrix.d l.initial.ordering l.ordering l.initial.distances l.distances l.i

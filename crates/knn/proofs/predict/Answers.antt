@@ -1,4 +1,4 @@
--- `classifier::knn::predict` meets its contract. After i turns the first i predictions stand. Assumes nothing.
+-- `predict` meets its contract. After i turns the first i predictions stand. Assumes nothing.
 use mathlib.Core.Path.{◌≡◌, refl, sym, ap, ◌∙◌}
 use mathlib.Core.List.{List, ◌++◌}
 use Prim.Native.Nat.{ℕ, zero, suc, ◌+◌, ◌-◌, ◌*◌, ◌^◌, ◌≤◌, ◌<◌}
@@ -15,15 +15,10 @@ use Rattle.scope.specs.Neighbours.{order_of, orders, neighbours, count_of, predi
 use Rattle.scope.proofs.Lists.{store_more}
 use Rattle.rounding.proofs.Root.{square_ge, root_is}
 use Rattle.distances.specs.Matrix.{Filled}
-use Rattle.distances.proofs.Distances.{row_in, square_small, length_order, length_orders, order_at}
+use Rattle.distances.proofs.Distances.{row_in, length_order, length_orders, order_at}
+use Rattle.knn.proofs.Counts.{past_are, past_few}
 use Rattle.knn.proofs.predict.Goals as goal
-use Rattle.knn.proofs.predict.Lts as lts
-use Rattle.knn.proofs.predict.Tie as tie
-use Rattle.knn.proofs.predict.Reads as reads
 use Rattle.knn.proofs.predict.Invariants.{State}
-
-abbrev At-After-struct_known-1 : Type 0
-At-After-struct_known-1 = lts.After-struct_known tie.the-claims reads.Pre reads.Post goal.the-invariant-loop-i goal.the-decreases-loop-i tie.handed_clauses
 
 length-predictions : (cells : List Float) (n d start stop split i : ℕ) → length (predictions cells n d start stop split i) ≡ i
 unfolding predictions
@@ -48,53 +43,50 @@ module _ {cells : List Float} {n d : ℕ} {ordering : List ℕ} (filled : Filled
   unfolding count_of
   count-is start stop split i e f = rw (← e) (f ∙ rw row-order)
 
-begin : {cells : List Float} {n d start stop split L k : ℕ} {out : List Float} → L ≡ stop - start → k ≡ whole_root L → State cells n d start stop split L k out out 0
+begin : {cells : List Float} {n d start stop split k : ℕ} {out : List Float} → k ≡ whole_root (stop - start) → State cells n d start stop split k out out 0
 unfolding predictions
-begin {L = L} e f = record { segment = e; root = f; few = omega (arith, (root_is L).0, square_ge (whole_root L)); turns = omega arith; long = refl; held = refl }
+begin {start = start} {stop = stop} f = record { root = f; few = omega (arith, (root_is (stop - start)).0, square_ge (whole_root (stop - start))); turns = omega arith; long = refl; held = refl }
 
-module _ {cells : List Float} {n d start stop split L k : ℕ} {out₀ out : List Float} {i : ℕ} (s : State cells n d start stop split L k out₀ out i) where
-  next : i < L → i < length out₀ → {count : ℕ} → count ≡ count_of cells n d start stop split (start + i) → State cells n d start stop split L k out₀ (set out i (whole count ⊘ whole k)) (i + 1)
+module _ {cells : List Float} {n d start stop split k : ℕ} {out₀ out : List Float} {i : ℕ} (s : State cells n d start stop split k out₀ out i) where
+  next : i < stop - start → i < length out₀ → {count : ℕ} → count ≡ count_of cells n d start stop split (start + i) → State cells n d start stop split k out₀ (set out i (whole count ⊘ whole k)) (i + 1)
   unfolding predictions
   next h l {count} e =
       record {
-        segment = s.segment;
         root = s.root;
         few = s.few;
         turns = omega arith;
         long = length-set out i (whole count ⊘ whole k) ∙ s.long;
-        held = rw (s.held, e, s.root, s.segment) (store_more (predictions cells n d start stop split i) out₀ i _ (length-predictions cells n d start stop split i) l ∙ rw (add-one i));
+        held = rw (s.held, e, s.root) (store_more (predictions cells n d start stop split i) out₀ i _ (length-predictions cells n d start stop split i) l ∙ rw (add-one i));
       }
 
-  finish : L ≤ i → out ≡ holding (predictions cells n d start stop split (stop - start)) out₀
-  finish h = let e : i ≡ stop - start = omega (arith, s.turns, s.segment) in s.held ∙ rw (e, length-predictions cells n d start stop split (stop - start))
+  finish : stop - start ≤ i → out ≡ holding (predictions cells n d start stop split (stop - start)) out₀
+  finish h = let e : i ≡ stop - start = omega (arith, s.turns) in s.held ∙ rw (e, length-predictions cells n d start stop split (stop - start))
 
 small : (n : ℕ) → n ≤ 1024 → T (in_float binary64 (pos n))
 unfolding in_float
 small n h = le→leb n (2 ^ 53) (omega arith)
 
--- the row of a turn
-row-there : (c : At-After-struct_known-1) → c.position_from-row.result.0 < c.args.n
-row-there c = omega (arith, c.requires)
-
-row_small : (c : At-After-struct_known-1) → c.position_from-row.result.0 * c.args.n + c.args.n ≤ 1048576
-row_small c = square_small _ _ (row-there c) c.requires.0.rows
-
 pub loop-i-init : goal.loop-i-init
-loop-i-init c = begin c.offset_in-segment_length.ensures c.whole_root-k.ensures
+loop-i-init c = begin (c.whole_root-k.ensures ∙ ap whole_root c.length.ensures)
 
 pub slice_bounds-count_past-end : goal.slice_bounds-count_past-end
-slice_bounds-count_past-end c = let there : c.position_from-row.result.0 < c.args.n = omega (arith, c.requires) in fits c.requires.0 there
+slice_bounds-count_past-end c = let there : c.position_from-row.result.0 < c.args.matrix.n = omega (arith, c.requires) in fits c.requires.0 there
 
-pub count_past-count-requires : goal.count_past-count-requires
-count_past-count-requires c =
-    let p = c.requires in
-    let at = c.loop-i.invariant in
-    (omega (arith, row-length p.0 (row-there c.before.before), p.0.rows), at.root ∙ ap whole_root at.segment)
+pub int_to_float-predictions : goal.int_to_float-predictions
+int_to_float-predictions c =
+    let s = c.args in
+    let order = take (c.position_from-row.result.0 * s.matrix.n + s.matrix.n - c.position_from-row.result.0 * s.matrix.n) (drop (c.position_from-row.result.0 * s.matrix.n) s.ordering.now) in
+    small c.count_past-count.result
+    (omega (arith, c.count_past-count.ensures, past_few s.segment.start.0 s.segment.stop.0 c.position_from-row.result.0 s.split.0 c.whole_root-k.result order c.loop-i.invariant.root, c.loop-i.invariant.few, c.requires, c.requires.0.rows))
 
 pub loop-i-preserved : goal.loop-i-preserved
 loop-i-preserved c =
-    let p = c.requires in
-    let at = c.loop-i.invariant in
-    let more = c.loop-i-test.true in
-    let count = count-is p.0 (row-there c.before.before.before.before.before) _ _ _ _ c.position_from-row.ensures c.count_past-count.ensures.count in
-    next at more (omega (arith, more, p.3, at.segment)) count
+    let s = c.args in
+    let there : c.position_from-row.result.0 < s.matrix.n = omega (arith, c.requires) in
+    let order = take (c.position_from-row.result.0 * s.matrix.n + s.matrix.n - c.position_from-row.result.0 * s.matrix.n) (drop (c.position_from-row.result.0 * s.matrix.n) s.ordering.now) in
+    let past = past_are s.segment.start.0 s.segment.stop.0 c.position_from-row.result.0 s.split.0 c.whole_root-k.result order c.loop-i.invariant.root in
+    let count = count-is c.requires.0 there s.segment.start.0 s.segment.stop.0 s.split.0 c.loop-i.i c.position_from-row.ensures (c.count_past-count.ensures ∙ sym past) in
+    next c.loop-i.invariant (omega arith) (omega (arith, c.requires.3)) count
+
+pub returns : goal.returns
+returns c = finish c.loop-i.invariant (omega arith)

@@ -1,54 +1,53 @@
 -- `store_draws` meets its contract: before each pair, those records stand that the pairs passed have left, and the rest of the list is to leave the others.
-use mathlib.Core.Option.{Option}
-use Prim.Native.Nat.{ℕ}
-use native.Mathlib.Omega.{arith}
-use Rattle.scope.specs.Grid.{Record}
-use Rattle.control.specs.Settings.{shortest_of}
-use Rattle.stored.proofs.Flat.{put_long}
+use Rattle.std.proofs.Common.{◌∙◌, arith, rules}
+use Rattle.std.specs.Iterator.Adapters.{enumerate_source}
+use Rattle.std.specs.Slice.Iter.{chunks_exact_rest}
 use Rattle.segmentation.specs.Segments.{search_over}
 use Rattle.segmentation.proofs.Clean.{draw_within}
 use Rattle.segmentation.proofs.Drawing.{drawing_none, drawing_pair, drawing_next, drawing_ends, drawing_full}
 use Rattle.segmentation.proofs.store_draws.Goals as goal
-use Rattle.segmentation.proofs.store_draws.Lts as lts
-use Rattle.segmentation.proofs.store_draws.Tie as tie
-use Rattle.segmentation.proofs.store_draws.Reads as reads
 
-abbrev At-Start : Type 0
-At-Start = lts.Start tie.the-claims reads.Pre reads.Post goal.the-invariant-loop-i goal.the-decreases-loop-i tie.handed_clauses
-
--- the search of a segment
-abbrev find : At-Start → ℕ → ℕ → Option Record
-find s = search_over s.args.sums.now s.args.d (shortest_of s.args.shortest) s.args.forbidden.now
-
-pub loop-i-init : goal.loop-i-init
-loop-i-init c = (omega arith, drawing_none (find c.before.before.before.before.before.before) c.args.draws.now c.args.w)
-
-pub shape_of-rows-then-count-w : goal.shape_of-rows-then-count-w
-shape_of-rows-then-count-w c = (put_long c.loop-i.invariant.1.put).0
-
-pub shape_of-gains-then-count-w : goal.shape_of-gains-then-count-w
-shape_of-gains-then-count-w c = (put_long c.loop-i.invariant.1.put).1
+pub loop-number-init : goal.loop-number-init
+loop-number-init c =
+    let s = c.args in
+    let same = c.into_iter-number-iterator.ensures.into_iter_gives in
+    let items = c.enumerate-number-items.ensures in
+    let chunks = c.chunks_exact.ensures in
+    record {
+      two = rw (same, items.source) chunks.size;
+      can_next = search rules;
+      ends = search rules;
+      drawing = rw (same, items.source, items.count, chunks.rest) (drawing_none (search_over s.gain s.allowed) s.draws.now s.w);
+    }
 
 pub returns-then-count-w : goal.returns-then-count-w
-returns-then-count-w c = drawing_full (find c.before.before.before.before.before.before.before.before.before) c.args.draws.now c.args.w c.loop-i.invariant.1 c.if-count-w.true
+returns-then-count-w c = let s = c.args in drawing_full (search_over s.gain s.allowed) s.draws.now s.w c.loop-number.invariant.drawing c.if-count-w.true
 
-pub store_draw-count-requires : goal.store_draw-count-requires
-store_draw-count-requires c =
-    let l = c.loop-i in
-    let long = put_long l.invariant.1.put in
-    let fits = draw_within c.requires.m_bound.1 (drawing_pair (find c.before.before.before.before.before.before.before.before.before.before.before.before) c.args.draws.now c.args.w l.invariant.1 (omega arith)) c.draw_at-draw.ensures in
-    record { stop_bound = (fits.0, c.requires.m_bound.0, fits.1); at_in_bounds = (omega arith, omega arith) }
+-- the pair is one of the list
+pub store_draw-count-requires-clause-stop_bound : goal.store_draw-count-requires-clause-stop_bound
+store_draw-count-requires-clause-stop_bound c =
+    let s = c.args in
+    let steps = c.in-Some.ensures.steps in
+    let before = c.loop-number.invariant in
+    let listed = drawing_pair (search_over s.gain s.allowed) s.draws.now s.w before.drawing c.in-Some.pair.now (chunks_exact_rest (enumerate_source c.next.new.self)) steps.0.1.0 (steps.0.1.1 ∙ before.two) in
+    let fits = draw_within c.requires.m_bound.1 listed c.draw_at-draw.ensures in
+    (fits.0, c.requires.m_bound.0, fits.1)
 
-pub loop-i-preserved : goal.loop-i-preserved
-loop-i-preserved c =
-    let l = c.loop-i in
-    (omega arith, drawing_next (find c.before.before.before.before.before.before.before.before.before.before.before.before.before.before.before.before.before) c.args.draws.now c.args.w l.invariant.1 (omega arith) (omega arith) c.draw_at-draw.ensures c.store_draw-count.ensures)
-
-pub shape_of-rows : goal.shape_of-rows
-shape_of-rows c = (put_long c.loop-i.invariant.1.put).0
-
-pub shape_of-gains : goal.shape_of-gains
-shape_of-gains c = (put_long c.loop-i.invariant.1.put).1
+pub loop-number-preserved : goal.loop-number-preserved
+loop-number-preserved c =
+    let s = c.args in
+    let steps = c.in-Some.ensures.steps in
+    let before = c.loop-number.invariant in
+    let put = rw steps.1 at c.store_draw-count.ensures in
+    record {
+      two = steps.0.0 ∙ before.two;
+      can_next = search rules;
+      ends = search rules;
+      drawing = rw steps.2 (drawing_next (search_over s.gain s.allowed) s.draws.now s.w before.drawing c.in-Some.pair.now (chunks_exact_rest (enumerate_source c.next.new.self)) steps.0.1.0 (steps.0.1.1 ∙ before.two) (omega arith) c.draw_at-draw.ensures put);
+    }
 
 pub returns : goal.returns
-returns c = drawing_ends (find c.before.before.before.before.before.before.before.before) c.args.draws.now c.args.w c.loop-i.invariant.1 (omega arith)
+returns c =
+    let s = c.args in
+    let before = c.loop-number.invariant in
+    drawing_ends (search_over s.gain s.allowed) s.draws.now s.w before.drawing (rw before.two at c.in-None.ensures.steps.0.1.0)

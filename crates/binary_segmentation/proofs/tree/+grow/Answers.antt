@@ -14,31 +14,31 @@ judge-requires t c =
 pub put_node-requires : goal.put_node-requires
 put_node-requires t c = (room_here _ _ _ _ _ c.requires.1).2
 
-pub grow-left-requires : goal.grow-left-requires
-grow-left-requires t c =
+pub grow-second-requires : goal.grow-second-requires
+grow-second-requires t c =
     let fits = c.requires.1 in
     let j = c.in-Cut.ensures in
     let w = split_within _ _ _ _ _ fits _ _ j in
-    (omega (arith, c.decreases, w), (sized_within c.args.asked c.in-Cut.choice.best_split.0 c.args.stop.0 _ (omega (arith, w)) c.requires.0, fits_left _ _ _ _ _ fits _ _ j))
+    (omega (arith, c.decreases, w), (sized_within c.args.asked c.in-Cut.choice.best_split.0 c.args.segment.stop.0 (omega (arith, w)) c.requires.0, fits_left _ _ _ _ _ fits _ _ j))
 
-pub put_cut-second-requires : goal.put_cut-second-requires
-put_cut-second-requires t c = fits_cut _ _ _ _ _ c.requires.1 _ _ c.in-Cut.ensures _ _ c.grow-left.ensures
+pub put_cut-behind-requires : goal.put_cut-behind-requires
+put_cut-behind-requires t c = fits_cut _ _ _ _ _ c.requires.1 _ _ c.in-Cut.ensures _ _ c.grow-second.ensures
 
 pub put_node-requires-in-Cut : goal.put_node-requires-in-Cut
-put_node-requires-in-Cut t c = fits_node _ _ _ _ _ c.requires.1 _ _ c.in-Cut.ensures _ _ c.grow-left.ensures
+put_node-requires-in-Cut t c = fits_node _ _ _ _ _ c.requires.1 _ _ c.in-Cut.ensures _ _ c.grow-second.ensures
 
 pub grow-requires : goal.grow-requires
 grow-requires t c =
     let fits = c.requires.1 in
     let j = c.in-Cut.ensures in
     let w = split_within _ _ _ _ _ fits _ _ j in
-    let second = c.put_cut-second.ensures in
-    (omega (arith, c.decreases, w), (c.requires.0, rw (second.0, second.1, c.put_node-in-Cut.ensures) (fits_right _ _ _ _ _ fits _ _ j _ _ c.grow-left.ensures c.cut.result)))
+    let behind = c.put_cut-behind.ensures in
+    (omega (arith, c.decreases, w), (c.requires.0, rw (behind.0, behind.1, c.put_node-in-Cut.ensures) (fits_right _ _ _ _ _ fits _ _ j _ _ c.grow-second.ensures c.cut.result)))
 
 pub returns-in-Uncut : goal.returns-in-Uncut
 returns-in-Uncut t c = rw c.put_node.ensures (leaf_grown _ _ _ _ _ c.requires.1 _ _ c.in-Uncut.ensures)
 
 pub returns-in-Cut : goal.returns-in-Cut
 returns-in-Cut t c =
-    let second = c.put_cut-second.ensures in
-    cut_grown _ _ _ _ _ c.requires.1 _ _ c.in-Cut.ensures _ _ c.grow-left.ensures c.cut.result c.cut.ensures _ _ (rw (second.0, second.1, c.put_node-in-Cut.ensures) at c.grow.ensures)
+    let behind = c.put_cut-behind.ensures in
+    cut_grown _ _ _ _ _ c.requires.1 _ _ c.in-Cut.ensures _ _ c.grow-second.ensures c.cut.result c.cut.ensures _ _ (rw (behind.0, behind.1, c.put_node-in-Cut.ensures) at c.grow.ensures)

@@ -3,4 +3,4 @@ use Rattle.std.proofs.Common.{◌-◌}
 use Rattle.binary_segmentation.proofs.tree.+grow.Given as goal
 
 abbrev pub decreases-grow : goal.decreases-grow
-decreases-grow l = l.stop.0 - l.start.0
+decreases-grow l = l.segment.stop.0 - l.segment.start.0

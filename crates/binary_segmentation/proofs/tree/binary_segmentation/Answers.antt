@@ -3,7 +3,7 @@ use Rattle.binary_segmentation.proofs.Segmented.{whole_fits, segmented}
 use Rattle.binary_segmentation.proofs.tree.binary_segmentation.Goals as goal
 
 pub grow-requires : goal.grow-requires
-grow-requires c = let s = c.args in (c.requires.0, whole_fits s.sums.now s.forbidden.now s.asked s.n s.count _ c.requires.1)
+grow-requires c = let run = c.run.ensures in rw (run.0, run.1) (c.requires.0, whole_fits c.args.asked c.args.n c.args.count _ c.requires.1)
 
 pub returns : goal.returns
-returns c = let s = c.args in segmented s.sums.now s.forbidden.now s.asked s.n s.count _ c.requires.1 _ _ c.grow.ensures
+returns c = let run = c.run.ensures in segmented c.args.asked c.args.n c.args.count _ c.requires.1 _ _ (rw (run.0, run.1) at c.grow.ensures)

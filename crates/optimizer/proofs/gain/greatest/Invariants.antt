@@ -2,9 +2,8 @@
 use Rattle.std.proofs.Common.{◌≡◌, map}
 use Rattle.scope.specs.Grid.{best, trial, trials}
 use Rattle.control.specs.Settings.{shortest_of}
-use Rattle.optimizer.specs.Left.{rows_left}
+use Rattle.optimizer.specs.Left.{Each, rows_left}
 use Rattle.optimizer.specs.Records.{to_record}
-use Rattle.optimizer.proofs.Left.{Within}
 use Rattle.optimizer.proofs.gain.greatest.Given as goal
 
 abbrev pub invariant-loop-split : goal.invariant-loop-split
@@ -16,6 +15,6 @@ invariant-loop-split g l =
     × (goal.iterator-loop-split g).is_finite l.split-iterator
     × (l.record.start.0 ≡ a)
     × (l.record.stop.0 ≡ e)
-    × Within a e (rows_left l.split-iterator)
+    × Each (g.G.Gain.IsKnown l.gain a e) (rows_left l.split-iterator)
     × (best (to_record l.fn.from) (trials gain (shortest_of l.fn.allowed.shortest) l.fn.allowed.forbidden.now a e)
     ≡ best (to_record l.record) (map (trial gain a e) (rows_left l.split-iterator)))

@@ -1,0 +1,12 @@
+-- `search_segment` meets its contract: the gain is known at each candidate.
+use Rattle.std.proofs.Common.{arith}
+use Rattle.scope.proofs.Candidates.{one_at_most}
+use Rattle.control.specs.Settings.{shortest_of}
+use Rattle.optimizer.proofs.Left.{each_candidate}
+use Rattle.grid_search.proofs.search_segment.Goals as goal
+
+pub greatest-requires-clause-known : goal.greatest-requires-clause-known
+greatest-requires-clause-known c =
+    let a = c.args in
+    let s = shortest_of a.allowed.shortest in
+    each_candidate _ s a.allowed.forbidden.now a.segment.start.0 a.segment.stop.0 (λ x w. let low = w.low in let high = w.high in (omega arith, omega (arith, one_at_most s), c.requires.start_le_stop.1, c.requires.d_in_bounds))

@@ -1,0 +1,2 @@
+-- Whether a row is near another.
+pub mod Near
