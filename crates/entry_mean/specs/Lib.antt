@@ -1,3 +1,2 @@
--- For each enum that is answered with: this paper's number and values for each of its cases. For each call: what it leaves.
-pub mod Answers
+-- For each call: what it leaves.
 pub mod Left

@@ -51,7 +51,7 @@ module _ (cells₀ : List Float) (forbidden₀ : List ℕ) (room : 128 ≤ lengt
   deck = told.deck
 
   number_same : given_refusal g forbidden ≡ deck_refusal deck
-  number_same = (refusal_right g forbidden (given_refusal g forbidden) refl).1 cells₀ forbidden₀ cells r room told
+  number_same = refusal_right g forbidden (given_refusal g forbidden) refl cells₀ forbidden₀ cells r room told
 
   module _ (clean : DeckClean deck) where
     cells_same : (matrix_held g cells).cells ≡ map (of_int binary64) deck.cells

@@ -58,5 +58,5 @@ module _ (cells₀ : List Float) (forbidden₀ : List ℕ) (g : Given) (cells : 
   refusal_same = rw (sizes_same, told.m_is, told.threshold_is, told.kept.wide_is, pairs_same)
 
 -- what `refusal` answers is right
-pub refusal_right : (g : Given) (forbidden : List ℕ) (n : ℕ) → n ≡ given_refusal g forbidden → (n ≡ given_refusal g forbidden) × Judged g forbidden n
-refusal_right g forbidden n e = (e, λ cells₀ forbidden₀ cells r room told. e ∙ refusal_same cells₀ forbidden₀ g cells forbidden r room told)
+pub refusal_right : (g : Given) (forbidden : List ℕ) (n : ℕ) → n ≡ given_refusal g forbidden → Judged g forbidden n
+refusal_right g forbidden n e cells₀ forbidden₀ cells r room told = e ∙ refusal_same cells₀ forbidden₀ g cells forbidden r room told

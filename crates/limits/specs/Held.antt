@@ -7,19 +7,12 @@ use Rattle.scope.specs.Tree.{Run}
 use Rattle.scope.specs.Calls.{run_of}
 use Rattle.line.specs.declared.Given.{Given}
 
--- its cells and its forbidden pairs
-abbrev pub cells_held : Given → List Float → List Float
-cells_held g cells = take (g.n * g.d) cells
-
-abbrev pub pairs_held : Given → List ℕ → List ℕ
-pairs_held g forbidden = take (2 * g.pairs) forbidden
-
--- its matrix, its settings, its run
+-- its matrix, its settings, its run: of its cells and its forbidden pairs, which stand first in the slices
 abbrev pub matrix_held : Given → List Float → Matrix
-matrix_held g cells = record { cells = cells_held g cells; n = g.n; d = g.d }
+matrix_held g cells = record { cells = take (g.n * g.d) cells; n = g.n; d = g.d }
 
 abbrev pub settings_held : Given → List ℕ → Settings
-settings_held g forbidden = record { shortest = off g.m; threshold = of_bits binary64 g.threshold; forbidden = pairs_held g forbidden; source = nothing }
+settings_held g forbidden = record { shortest = off g.m; threshold = of_bits binary64 g.threshold; forbidden = take (2 * g.pairs) forbidden; source = nothing }
 
 abbrev pub run_held : Given → List Float → List ℕ → Run
 run_held g cells forbidden = run_of (matrix_held g cells) (settings_held g forbidden)

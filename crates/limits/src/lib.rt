@@ -1,14 +1,15 @@
 // The refusals that a deck earns by the program's limits: numbers 1 to 5, the lowest that applies; and what its run is asked with. Inside the library.
 #![tactic(auto)]
 
-ghost use Rattle.std.specs.Prelude.{◌≡◌, false, ◌*◌, ◌≤◌, length};
-ghost use Rattle.std.specs.Float.{binary64};
-ghost use Rattle.std.specs.Float.Ieee.{of_bits, is_nan};
+ghost use Rattle.std.specs.Prelude.{◌≡◌, ◌*◌, ◌≤◌, length};
+ghost use Rattle.control.specs.Refused.{number_in};
+ghost use Rattle.control.specs.Settings.{matrix_of, settings_of};
 ghost use Rattle.limits.specs.Limits.{wrong_given, wrong_held, given_refusal, Judged};
-ghost use Rattle.limits.specs.Held.{cells_held, pairs_held};
+ghost use Rattle.limits.specs.Held.{matrix_held, settings_held};
 
-use control::{MOST_COLUMNS, MOST_LENGTH, Settings, Shortest};
+use control::{Allowed, MOST_LENGTH, Matrix, Refusal, Settings, Shortest, Source};
 use line::{Given, MOST_CELLS, MOST_PAIRS};
+use std::num::f64_from_bits_with_nan;
 
 // The program's own size of n.
 const MOST_ROWS: usize = 256;
@@ -16,102 +17,88 @@ const MOST_ROWS: usize = 256;
 // The prefix sums of at most 2,048 cells: one row more, of at most 64.
 pub const SUMS: usize = 2112;
 
+#[tactic(auto, unfolding(crate::specs::Limits::wrong_given))]
 fn wrong_sizes(deck: Given) -> bool
     ensures { result ≡ wrong_given deck }
 {
-    if control::is_outside(MOST_ROWS, deck.n) {
-        return true;
-    }
-    if control::is_outside(MOST_COLUMNS, deck.d) {
+    if control::wrong_sizes(deck.n, deck.d, MOST_ROWS) {
         return true;
     }
     let cells = deck.n * deck.d;
-    if MOST_CELLS < cells {
-        return true;
-    }
-    deck.cells != cells
+    MOST_CELLS < cells || deck.cells != cells
 }
 
+#[tactic(auto, unfolding(crate::specs::Limits::wrong_held))]
 fn wrong_pairs(pairs: usize, forbidden: &[usize]) -> bool
     requires { 128 ≤ length forbidden.now }
     ensures { result ≡ wrong_held pairs forbidden.now }
 {
-    if MOST_PAIRS < pairs {
-        return true;
-    }
-    let end = 2 * pairs;
-    !control::well_paired(&forbidden[..end])
+    MOST_PAIRS < pairs || !control::well_paired(&forbidden[..2 * pairs])
 }
 
-fn is_nan(bits: u64) -> bool
-    ensures { result ≡ is_nan (of_bits binary64 bits) }
-{
-    0x7ff0_0000_0000_0000 < bits % 0x8000_0000_0000_0000
-}
-
-// The threshold of a deck, from its bits.
-fn threshold(bits: u64) -> f64
-    ensures { result ≡ of_bits binary64 bits }
-{
-    if is_nan(bits) {
-        return 0.0 / 0.0;
-    }
-    f64::from_bits(bits)
-}
-
-// The deck's refusal, 0 where it has none; the forbidden pairs are those that `deck::feed` stored.
-pub fn refusal(deck: Given, forbidden: &[usize]) -> u32
+// The refusal from what is kept of a deck, test by test.
+#[tactic(auto, unfolding(crate::specs::Limits::given_refusal))]
+fn given_refusal(deck: Given, forbidden: &[usize]) -> Result<(), Refusal>
     requires { 128 ≤ length forbidden.now }
-    ensures answer { result ≡ given_refusal deck forbidden.now }
-    ensures judged { Judged deck forbidden.now result }
+    ensures { number_in result ≡ given_refusal deck forbidden.now }
 {
     if wrong_sizes(deck) {
-        return 1;
+        return Err(Refusal::Sizes);
     }
     if control::is_outside(MOST_LENGTH, deck.m) {
-        return 2;
+        return Err(Refusal::Length);
     }
-    if is_nan(deck.threshold) {
-        return 3;
+    if f64_from_bits_with_nan(deck.threshold).is_nan() {
+        return Err(Refusal::Threshold);
     }
     if deck.wide {
-        return 4;
+        return Err(Refusal::NotFinite);
     }
     if wrong_pairs(deck.pairs, forbidden) {
-        return 5;
+        return Err(Refusal::Pairs);
     }
-    0
+    Ok(())
 }
 
-// The settings of a deck: the end is not closed.
-pub fn settings(deck: Given) -> Settings
-    ensures { result ≡ record { shortest = record { m = deck.m; closed = false }; threshold = of_bits binary64 deck.threshold } }
+// The deck's refusal; the forbidden pairs are those that `deck::feed` stored.
+pub fn refusal(deck: Given, forbidden: &[usize]) -> Result<(), Refusal>
+    requires { 128 ≤ length forbidden.now }
+    ensures answer { number_in result ≡ given_refusal deck forbidden.now }
+    ensures judged { Judged deck forbidden.now (number_in result) }
 {
-    let shortest = Shortest {
-        m: deck.m,
-        closed: false,
-    };
-    let threshold = threshold(deck.threshold);
-    Settings {
-        shortest,
-        threshold,
-    }
+    given_refusal(deck, forbidden)
 }
 
-// The cells of a deck, of the slice that they were stored in.
-pub fn cells_held(deck: Given, cells: &[f64]) -> &[f64]
-    requires { deck.n * deck.d ≤ length cells.now }
-    ensures { result.now ≡ cells_held deck cells.now }
-{
-    let len = deck.n * deck.d;
-    &cells[..len]
-}
-
-// Its forbidden pairs, flat.
-pub fn pairs_held(deck: Given, forbidden: &[usize]) -> &[usize]
+// The settings of a deck: the end is not closed, and it has no stored segments. Its forbidden pairs stand first in the slice that they were stored in.
+pub fn settings(deck: Given, forbidden: &[usize]) -> Settings<'_>
     requires { 2 * deck.pairs ≤ length forbidden.now }
-    ensures { result.now ≡ pairs_held deck forbidden.now }
+    ensures { settings_of result ≡ settings_held deck forbidden.now }
 {
-    let end = 2 * deck.pairs;
-    &forbidden[..end]
+    Settings {
+        allowed: Allowed {
+            shortest: Shortest {
+                m: deck.m,
+                closed: false,
+            },
+            forbidden: &forbidden[..2 * deck.pairs],
+        },
+        threshold: f64_from_bits_with_nan(deck.threshold),
+        source: Source {
+            layers: &[],
+            draws: &[],
+            w: 0,
+        },
+    }
+}
+
+// The matrix of a deck. Its cells stand first in the slice that they were stored in.
+pub fn matrix(deck: Given, cells: &[f64]) -> Matrix<'_>
+    requires { deck.n * deck.d ≤ length cells.now }
+    ensures { matrix_of result ≡ matrix_held deck cells.now }
+{
+    Matrix {
+        cells: &cells[..deck.n * deck.d],
+        n: deck.n,
+        d: deck.d,
+    }
 }

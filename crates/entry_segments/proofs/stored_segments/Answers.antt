@@ -1,57 +1,37 @@
--- `stored_segments` meets its contract: a number, and nothing is told; or the records, with the sums left.
-use mathlib.Core.Path.{◌≡◌, sym, ◌∙◌, ap}
-use lib.ListN.{length}
-use Rattle.scope.specs.Calls.{sums_of, StoredAsked, stored_refusal, stored_of, stored_call}
-use Rattle.control.specs.Settings.{shortest_of}
+-- `stored_segments` meets its contract: the refusal, and nothing is told; or the records, with the sums left.
+use Rattle.std.proofs.Common.{◌≡◌, sym, ◌∙◌, ap, length, rules}
+use Rattle.scope.specs.Refusals.{given}
+use Rattle.scope.specs.Calls.{sums_of, stored_refusal, stored_of, stored_call}
+use Rattle.control.specs.Refused.{number_of}
+use Rattle.control.specs.Settings.{matrix_of, shortest_of, source_of}
 use Rattle.control.proofs.Follows.{answer_refused, answer_given}
 use Rattle.segmentation.specs.Segments.{Slices, stored_asked}
 use Rattle.segmentation.proofs.Held.{none_held, all_held}
-use Rattle.entry_mean.specs.Answers.{count_of}
-use Rattle.entry_mean.specs.declared.Count.TheVariants.{Written}
 use Rattle.entry_segments.proofs.stored_segments.Goals as goal
-use Rattle.entry_segments.proofs.stored_segments.Lts as lts
-use Rattle.entry_segments.proofs.stored_segments.Tie as tie
-use Rattle.entry_segments.proofs.stored_segments.Reads as reads
 
-abbrev At-After-stored_refusal-no : Type 0
-At-After-stored_refusal-no = lts.After-stored_refusal tie.the-claims reads.Pre reads.Post
-
-abbrev At-Start : Type 0
-At-Start = lts.Start tie.the-claims reads.Pre reads.Post
-
-abbrev lent : At-Start → Slices
-lent s = record { sums = s.args.sums.now; rows = s.args.rows.now; gains = s.args.gains.now }
-
-abbrev asked : At-Start → StoredAsked
-asked s =
-    let a = s.args in
-    stored_asked (record { cells = a.cells.now; n = a.n; d = a.d }) (shortest_of a.shortest) a.forbidden.now (record { layers = a.layers.now; draws = a.draws.now; W = a.w }) (lent s)
-
--- the number is that of what is asked
-number : (c : At-After-stored_refusal-no) → c.stored_refusal-no.result ≡ stored_refusal (asked c.before.before.before.before.before.before.before.before.before)
-number c = rw (← c.record_room-room.ensures) c.stored_refusal-no.ensures
-
-pub returns-then-no-ne0 : goal.returns-then-no-ne0
+pub returns-in_err-stored_refusal : goal.returns-in_err-stored_refusal
 unfolding stored_call
-returns-then-no-ne0 c =
-    let a = asked c.before.before.before.before.before.before.before.before.before.before.before in
-    let is = number c.before.before in
-    record {
-      answer = ap count_of (answer_refused is c.if-no-ne0.true (length (stored_of a)));
-      held = none_held is (sums_of a.matrix) (stored_of a) (lent c.before.before.before.before.before.before.before.before.before.before.before) c.if-no-ne0.true;
-    }
+returns-in_err-stored_refusal c =
+    let s = c.args in
+    let lent : Slices = record { sums = s.sums.now; rows = s.rows.now; gains = s.gains.now } in
+    let a = stored_asked (matrix_of s.matrix) (shortest_of s.allowed.shortest) s.allowed.forbidden.now (source_of s.source) lent in
+    let r = c.in_err-stored_refusal.field-0.0 in
+    let is : number_of r ≡ stored_refusal a = rw (← c.record_room-room.ensures) c.in_err-stored_refusal.ensures in
+    let answer = answer_refused r is (length (stored_of a)) in
+    record { answer = search rules; held = none_held r is (sums_of a.matrix) (stored_of a) lent }
 
 pub store_segments-requires : goal.store_segments-requires
-store_segments-requires c = sym (number c.before.before.before.before.before) ∙ c.if-no-ne0.false
+store_segments-requires c = sym (rw (← c.record_room-room.ensures) c.in_ok-stored_refusal.ensures)
 
 pub returns : goal.returns
 unfolding stored_call
 returns c =
-    let a = asked c.before.before.before.before.before.before.before.before.before.before.before.before.before.before.before.before.before.before.before.before.before in
-    let is = number c.before.before.before.before.before.before.before.before.before.before.before.before in
-    let none = c.if-no-ne0.false in
+    let s = c.args in
+    let lent : Slices = record { sums = s.sums.now; rows = s.rows.now; gains = s.gains.now } in
+    let a = stored_asked (matrix_of s.matrix) (shortest_of s.allowed.shortest) s.allowed.forbidden.now (source_of s.source) lent in
+    let none : 0 ≡ stored_refusal a = rw (← c.record_room-room.ensures) c.in_ok-stored_refusal.ensures in
     let told = c.store_segments.ensures in
     record {
-      answer = ap Written told.count ∙ ap count_of (answer_given is none (length (stored_of a)));
-      held = all_held is (sums_of a.matrix) (stored_of a) (lent c.before.before.before.before.before.before.before.before.before.before.before.before.before.before.before.before.before.before.before.before.before) none told.held;
+      answer = ap given told.count ∙ answer_given none (length (stored_of a));
+      held = all_held none (sums_of a.matrix) (stored_of a) lent told.held;
     }
