@@ -1,5 +1,6 @@
 -- What each export answers: 0 or the number; and what it leaves in lent slices and stores through lent places, each before and after.
-use Rattle.std.specs.Prelude.{◌≡◌, Bool, List, map, ℕ, Float, length, get_or}
+use Rattle.std.specs.Prelude.{◌≡◌, Bool, true, false, List, map, ℕ, Float, length, get_or}
+use Rattle.std.proofs.Math.Option.{Option, some, none}
 use Rattle.scope.specs.Lists.{holding}
 use Rattle.scope.specs.Asked.{Matrix, Shortest, Source, Settings}
 use Rattle.scope.specs.Refusals.{given}
@@ -118,6 +119,11 @@ pub record PickStored (a : PickAsked) (r split₀ split₁ : ℕ) (gain₀ gain�
   pub number : r ≡ number_of (pick_answer a)
   pub split : split₁ ≡ told_or (λ s k. s.split) (pick_answer a) split₀
   pub gain : gain₁ ≡ told_or (λ s g. s.gain) (pick_answer a) gain₀
+
+-- the forbidden list, where one is given
+abbrev pub list_given : Bool → List ℕ → Option (List ℕ)
+list_given true forbidden = some forbidden
+list_given false forbidden = none
 
 -- one to three guesses, and how many
 pub record GuessesStored (a : GuessesAsked) (r first₀ first₁ second₀ second₁ third₀ third₁ count₀ count₁ : ℕ) : Type 0 where

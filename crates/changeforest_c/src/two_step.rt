@@ -1,6 +1,5 @@
 // The pick from a curve and the guesses, exported.
-ghost use Rattle.entry_two_step.specs.Answers.{list_given};
-ghost use Rattle.changeforest_c.specs.Stored.{PickStored, GuessesStored};
+ghost use Rattle.changeforest_c.specs.Stored.{PickStored, GuessesStored, list_given};
 
 use control::{Allowed, Shortest};
 use rows::{Position, Segment};
@@ -46,8 +45,9 @@ pub extern "C" fn changeforest_guesses(
     ensures { GuessesStored (record { n = n; shortest = record { m = m; closed = closed }; forbidden = list_given given forbidden.now; start = start; stop = stop }) result first.old first.new second.old second.new third.old third.new count.old count.new }
 {
     let segment = Segment { start: Position(start), stop: Position(stop) };
-    let forbidden = if given { Some(forbidden) } else { None };
-    match entry_two_step::guesses(n, Shortest { m, closed }, forbidden, segment) {
+    let shortest = Shortest { m, closed };
+    let listed = given.then_some(forbidden);
+    match entry_two_step::guesses(n, shortest, listed, segment) {
         Ok(found) => {
             told::put_guesses(found, first, second, third, count);
             0
