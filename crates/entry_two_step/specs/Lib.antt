@@ -1,2 +1,2 @@
--- For each enum that is answered with: this paper's number and values for each of its cases.
+-- A list that is lent or not, by the definitions' word.
 pub mod Answers

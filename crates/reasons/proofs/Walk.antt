@@ -4,11 +4,11 @@ use mathlib.Core.Bool.{false}
 use mathlib.Core.List.{List}
 use Prim.Native.Nat.{ℕ, ◌≤◌, ◌<◌}
 use native.Mathlib.Omega.{arith}
-use lib.Ieee.{Float}
 use Rattle.scope.specs.Grid.{Record}
 use Rattle.scope.specs.Layers.{StoredSegment}
 use Rattle.scope.specs.Tree.{Run, stored_records, choice, cut, verdict, Tree, tree_of}
 use Rattle.scope.specs.Why.{place_of, by_place, reason_in, why_of}
+use Rattle.scope.specs.Why as told
 use Rattle.demand.specs.Reached.{ruling, is_cut}
 use Rattle.demand.specs.Grows.{Grows}
 use Rattle.demand.proofs.Cut.{Far, cut_far}
@@ -20,10 +20,6 @@ use Rattle.verdict.specs.declared.Asked.{Asked}
 use Rattle.verdict.specs.declared.Verdict.{Verdict}
 use Rattle.verdict.specs.declared.Verdict.TheVariants.{WithoutChoice, Uncut, Cut}
 use Rattle.verdict.specs.Rules.{run_over, over, Rules}
-use Rattle.reasons.specs.declared.Why.TheVariants as why
-use Rattle.rows.specs.Segments.{from_segment}
-use Rattle.optimizer.specs.Records.{from_origin}
-use Rattle.reasons.specs.Answers.{from_why}
 
 -- a verdict that is none of a cut
 pub not_cut : (q : Run) (rs : List Record) (start stop : ℕ) (v : Verdict) → ((d c : GainRecord) → v ≡ Cut d c → ⊥) → Rules q rs start stop v → is_cut (verdict q rs start stop) ≡ false
@@ -32,9 +28,9 @@ not_cut q rs start stop (Uncut d c) h (e, v) = ap is_cut v
 not_cut q rs start stop (Cut d c) h r = absurd (h d c refl)
 
 -- a run over prefix sums, the records rs of whose stored segments stand; a row x of it
-module _ (sums : List Float) (forbidden : List ℕ) (s : Asked) (n : ℕ) (rs : List Record) (x : ℕ) where
+module _ (s : Asked) (n : ℕ) (rs : List Record) (x : ℕ) where
   abbrev q : List StoredSegment → Run
-  q segments = run_over sums forbidden s n segments
+  q segments = run_over s n segments
 
   -- the row is one of [start, stop), and stands in its tree as in the whole one
   pub record Down (start stop : ℕ) : Type 0 where
@@ -43,38 +39,38 @@ module _ (sums : List Float) (forbidden : List ℕ) (s : Asked) (n : ℕ) (rs : 
     pub fits : stop ≤ n
     pub by : (segments : List StoredSegment) → stored_records (q segments) ≡ rs → (t : Tree) × Grows (q segments) start stop t × (place_of x t ≡ place_of x (tree_of (q segments)))
 
-  module _ (least : 1 ≤ s.settings.shortest.m) where
+  module _ (least : 1 ≤ s.settings.allowed.shortest.m) where
     pub down_whole : x < n → Down 0 n
     down_whole h = record { low = omega arith; high = h; fits = omega arith; by = λ segments stand. (tree_of (q segments), grown_grows (q segments) least (omega arith), refl) }
 
     -- the verdict is the one by the stored segments' records alone
-    ruled : (segments : List StoredSegment) → stored_records (q segments) ≡ rs → (start stop : ℕ) → ruling (q segments) start stop ≡ verdict (over sums forbidden s) rs start stop
+    ruled : (segments : List StoredSegment) → stored_records (q segments) ≡ rs → (start stop : ℕ) → ruling (q segments) start stop ≡ verdict (over s) rs start stop
     unfolding ruling verdict choice
     ruled segments stand start stop = rw stand
 
     -- ---- a segment on the way
     module _ (start stop : ℕ) (d : Down start stop) where
       -- it is not cut: the row is told of it
-      pub told_uncut : is_cut (verdict (over sums forbidden s) rs start stop) ≡ false → (segments : List StoredSegment) → stored_records (q segments) ≡ rs
-          → from_why (reason_in (over sums forbidden s) x (record { start = start; stop = stop })) ≡ from_why (why_of (q segments) x)
+      pub told_uncut : is_cut (verdict (over s) rs start stop) ≡ false → (segments : List StoredSegment) → stored_records (q segments) ≡ rs
+          → reason_in (over s) x (record { start = start; stop = stop }) ≡ why_of (q segments) x
       unfolding why_of
       told_uncut u segments stand =
           let (t, g, e) = d.by segments stand in
           let leaf = leaf_place (q segments) least x (tree_of (q segments)) (grown_grows (q segments) least (omega (arith, d.high, d.fits))) start stop t g (ap is_cut (ruled segments stand start stop) ∙ u) in
-          ap (λ p. from_why (by_place (q segments) x p)) (sym leaf ∙ e)
+          ap (by_place (q segments) x) (sym leaf ∙ e)
 
       -- it is cut by c
-      module _ (c : Record) (is : verdict (over sums forbidden s) rs start stop ≡ cut c) where
+      module _ (c : Record) (is : verdict (over s) rs start stop ≡ cut c) where
         cut_is : (segments : List StoredSegment) → stored_records (q segments) ≡ rs → ruling (q segments) start stop ≡ cut c
         cut_is segments stand = ruled segments stand start stop ∙ is
 
         -- at the row
-        pub told_cut : x ≡ c.split → (segments : List StoredSegment) → stored_records (q segments) ≡ rs → why.Cut (from_segment (record { start = start; stop = stop })) (from_origin c.origin) ≡ from_why (why_of (q segments) x)
+        pub told_cut : x ≡ c.split → (segments : List StoredSegment) → stored_records (q segments) ≡ rs → told.cut (record { start = start; stop = stop }) c.origin ≡ why_of (q segments) x
         unfolding why_of
         told_cut at segments stand =
             let (t, g, e) = d.by segments stand in
             let p = parts_of (q segments) start stop c t (cut_is segments stand) g in
-            ap (λ p. from_why (by_place (q segments) x p)) (sym (place_at x start stop c p.left p.right at) ∙ sym (ap (place_of x) p.is) ∙ e)
+            ap (by_place (q segments) x) (sym (place_at x start stop c p.left p.right at) ∙ sym (ap (place_of x) p.is) ∙ e)
 
         -- elsewhere: the part that holds the row is shorter
         module _ (segments : List StoredSegment) (stand : stored_records (q segments) ≡ rs) where

@@ -58,9 +58,10 @@ module _ (find : ℕ → ℕ → Option Record) (draws : List ℕ) (w : ℕ) {ro
           let left : w - after ≡ w - count - length (leaves s) = omega (arith, put.told) in
           rw (pair_turn p rest next 0 e two, left, is, add-one) (drawn_next find k (get_or p 0 0) (get_or p 1 0) next (w - count) (omega arith))
 
-      pub drawing_next : count < w → {s : Segment} → s ≡ pair → {rows₁ : List ℕ} {gains₁ : List Float} {after : ℕ} → Put (leaves s) count rows gains rows₁ gains₁ after
-          → Drawing find draws w rows₀ gains₀ rows₁ gains₁ after (k + 1) next
-      drawing_next l {s} is {rows₁} {gains₁} {after} put =
+      pub drawing_next : count < w → {number : ℕ} → number ≡ k → {s : Segment} → s ≡ pair → {rows₁ : List ℕ} {gains₁ : List Float} {after : ℕ}
+          → Put (one (labelled (draw number) (draw_record find s))) count rows gains rows₁ gains₁ after → Drawing find draws w rows₀ gains₀ rows₁ gains₁ after (k + 1) next
+      drawing_next l numbered {s} is {rows₁} {gains₁} {after} stored_one =
+          let put : Put (leaves s) count rows gains rows₁ gains₁ after = rw numbered at stored_one in
           let more = leaves s in
           let then : stored find (drawn_from find k rest (w - count)) ≡ more ++ stored find (drawn_from find (k + 1) next (w - after)) = following l is put in
           record {

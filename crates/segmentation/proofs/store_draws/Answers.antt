@@ -38,12 +38,11 @@ loop-number-preserved c =
     let s = c.args in
     let steps = c.in-Some.ensures.steps in
     let before = c.loop-number.invariant in
-    let put = rw steps.1 at c.store_draw-count.ensures in
     record {
       two = steps.0.0 ∙ before.two;
       can_next = search rules;
       ends = search rules;
-      drawing = rw steps.2 (drawing_next (search_over s.gain s.allowed) s.draws.now s.w before.drawing c.in-Some.pair.now (chunks_exact_rest (enumerate_source c.next.new.self)) steps.0.1.0 (steps.0.1.1 ∙ before.two) (omega arith) c.draw_at-draw.ensures put);
+      drawing = rw steps.2 (drawing_next (search_over s.gain s.allowed) s.draws.now s.w before.drawing c.in-Some.pair.now (chunks_exact_rest (enumerate_source c.next.new.self)) steps.0.1.0 (steps.0.1.1 ∙ before.two) (omega arith) steps.1 c.draw_at-draw.ensures c.store_draw-count.ensures);
     }
 
 pub returns : goal.returns
