@@ -46,29 +46,13 @@ module _ (g : Given) (cells : List Float) (forbidden : List ℕ) (before after :
     cuts_are = rw (a, b, c, d) at left.cuts;
   }
 
--- ---- the number that applies: the deck's own is the first
-first_number : (k j : ℕ) → (k ≡ 0 → ⊥) → k ≡ or_else k j
-first_number zero j h = absurd (h refl)
-first_number (suc k) j h = refl
-
-pub deck_number : (g : Given) (cells : List Float) (forbidden : List ℕ) (k : ℕ) → (k ≡ 0 → ⊥) → k ≡ given_refusal g forbidden → k ≡ given_number g cells forbidden
-deck_number g cells forbidden k h e = rw (← e) (first_number k (tree_number g cells forbidden) h)
-
 -- ---- a deck that is not refused
 module _ (g : Given) (cells : List Float) (forbidden : List ℕ) (judged : 0 ≡ given_refusal g forbidden) where
   abbrev q : Run
   q = run_held g cells forbidden
 
   abbrev answer : ℕ → Answer Counts
-  answer no = unless no (counts_of q)
-
-  -- its tree's number
-  pub tree_refused : (k : ℕ) → refused k ≡ answer (tree_number g cells forbidden) → k ≡ given_number g cells forbidden
-  tree_refused k e = rw (← judged) (go (tree_number g cells forbidden) e)
-    where
-      go : (j : ℕ) → refused k ≡ answer j → k ≡ j
-      go zero e = never (cc)
-      go (suc j) e = cc
+  answer k = unless k (counts_of q)
 
   -- counts are those of the tree, which is not refused
   record Free (counts : Counts) : Type 0 where

@@ -97,7 +97,8 @@ fn put_sheet(
     ensures most { page.new.at ≤ page.old.at + TEXT }
 {
     limits::refusal(deck, forbidden)?;
-    let Grown { counts, .. } = grow(deck, cells, forbidden, sums, rows, gains, cuts)?;
+    let grown = grow(deck, cells, forbidden, sums, rows, gains, cuts)?;
+    let counts = grown.counts;
     let records = Records {
         rows,
         gains,

@@ -31,10 +31,6 @@ put_none = record { same_slice = refl; long = refl; written = record { end_is = 
 
 -- ---- a text that is put unless a number applies; the number then is put in its place
 module _ {no : ℕ} (text : List ℕ) where
-  pub refused_none : {a : Page} (k : ℕ) → (k ≡ 0 → ⊥) → k ≡ no → Put a (told_unless no text) a
-  refused_none zero h e = absurd (h refl)
-  refused_none (suc k) h e = rw (← e) put_none
-
   pub refused_put : {a b c : Page} (k : ℕ) → (k ≡ 0 → ⊥) → k ≡ no → Put a (told_unless no text) b → Put b (line (bytes "refused" ∷ decimal k ∷ [])) c → Put a (or_refused no text) c
   refused_put zero h e p q = absurd (h refl)
   refused_put (suc k) h e p q = rw (← e) (put_then (rw (← e) at p) q)

@@ -82,8 +82,8 @@ fn put_why(
     ensures most { page.new.at ≤ page.old.at + TEXT }
 {
     limits::refusal(deck, forbidden)?;
-    let Explained { why, .. } = explain(deck, row, cells, forbidden, sums)?;
-    why_text::put_why(page, row, why);
+    let explained = explain(deck, row, cells, forbidden, sums)?;
+    why_text::put_why(page, row, explained.why);
     Ok(())
 }
 
