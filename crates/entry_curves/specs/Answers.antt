@@ -1,9 +1,6 @@
--- The enums' cases, by the definitions' answers.
-use Rattle.scope.specs.Refusals.{Answer, refused, given}
+-- What is answered, as document 01's values.
 use Rattle.scope.specs.Calls.{Tested}
-use Rattle.entry_curves.specs.declared.Permuted.{Permuted}
-use Rattle.entry_curves.specs.declared.Permuted.TheVariants as permuted
+use Rattle.entry_curves.specs.declared.TestResult.{TestResult}
 
-abbrev pub permuted_of : Answer Tested → Permuted
-permuted_of (refused k) = permuted.Refused k
-permuted_of (given t) = permuted.Tested (record { counter = t.counted; p_value = t.p; is_significant = t.significant })
+abbrev pub to_tested : TestResult → Tested
+to_tested r = record { counted = r.counter; p = r.p_value; significant = r.is_significant }

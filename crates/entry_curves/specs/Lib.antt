@@ -1,3 +1,3 @@
--- For each enum that is answered with: this paper's number and values for each of its cases. For each lent slice: what it holds afterwards.
+-- What a call answers, as document 01's values. For each lent slice: what it holds afterwards.
 pub mod Answers
 pub mod Left

@@ -32,7 +32,6 @@ use Rattle.prepared.specs.declared.Prepared.{Prepared}
 use Rattle.prepared.specs.Answers.{room_in, tree_asked, standing_of, Prepares, TreePrepares, FedPrepares}
 use Rattle.prepared.proofs.Clean.{Growable, tree_clean, fed_clean}
 use Rattle.prepared.proofs.Stands.{segments, Stands, stands, sums_stand, sums_long}
-use Rattle.entry_tree.specs.Answers.{to_counts}
 use Rattle.entry_tree.specs.Left.{Slices, record_slices, RunLeft, TreeLeft, FedLeft}
 
 -- what is told later stands over what was told before
@@ -40,13 +39,18 @@ told_on : {A : Type 0} (xs ys l : List A) → holding (xs ++ ys) (holding xs l) 
 told_on {A} xs ys l = rw (length-append xs ys) (ap (λ (t : List A). (xs ++ ys) ++ t) (drop-append-add xs (drop (length xs) l) (length ys) ∙ drop-drop (length ys) (length xs) l))
 
 -- a number was given, or what stands is counted
-unprepared : (z sums count k : ℕ) → refused k ≡ unless z (sums, count) → k ≡ z
-unprepared zero sums count k h = never (cc)
-unprepared (suc z) sums count k h = cc
+unprepared : {A : Type 0} (z : ℕ) (a : A) (k : ℕ) → refused k ≡ unless z a → k ≡ z
+unprepared zero a k h = never (cc)
+unprepared (suc z) a k h = cc
+
+given_is : {A : Type 0} (z : ℕ) (a b : A) → given b ≡ unless z a → (0 ≡ z) × (b ≡ a)
+given_is zero a b h = (refl, cc)
+given_is (suc z) a b h = never (cc)
 
 counted : (z sums count : ℕ) (p : Prepared) → given (standing_of p) ≡ unless z (sums, count) → (0 ≡ z) × (p.len ≡ sums) × (p.stored ≡ count)
-counted zero sums count p h = (refl, cc, cc)
-counted (suc z) sums count p h = never (cc)
+counted z sums count p h =
+    let (none, is) = given_is z (sums, count) (standing_of p) h in
+    (none, ap (λ (w : ℕ × ℕ). w.0) is, ap (λ (w : ℕ × ℕ). w.1) is)
 
 -- the slices lent, with those of l
 abbrev pub with_lent : List Float → Lent → Slices
@@ -64,7 +68,7 @@ module _ (told : List Float) (number : ℕ) (before : Slices) (front : RecordSli
   refused_told : (q : Run) (standing : ℕ) (e : Refusal) → Prepares standing told (stored_records q) number (Err e) (record_slices before) front
       → RunLeft (run_follows q told number) q (Err e) before (with_lent front.sums lent)
   refused_told q standing e said =
-      let is = unprepared number standing (length (stored_records q)) (number_of e) said.answer in
+      let is = unprepared number (standing, length (stored_records q)) (number_of e) said.answer in
       record {
         answer = answer_refused e is (counts_of q);
         held = record {

@@ -35,15 +35,7 @@ pub fn binary_segmentation(
 ) -> Result<Grown, Refusal>
     ensures { TreeLeft (matrix_of matrix.entry) (settings_of settings.entry) result (record { sums = sums.old; rows = rows.old; gains = gains.old; nodes = nodes.old; cuts = cuts.old }) (record { sums = sums.new; rows = rows.new; gains = gains.new; nodes = nodes.new; cuts = cuts.new }) }
 {
-    let prepared = prepared::prepare(
-        matrix,
-        settings,
-        sums,
-        rows,
-        gains,
-        nodes.len(),
-        cuts.len(),
-    )?;
+    let prepared = prepared::prepare(matrix, settings, sums, rows, gains, nodes.len(), cuts.len())?;
     let gain = ChangeInMean {
         sums: &sums[..prepared.len],
         d: matrix.d,

@@ -1,22 +1,24 @@
 -- The permutations counted so far, and the curves that they are counted over. Assumes nothing.
-use mathlib.Core.Path.{◌≡◌}
+use mathlib.Core.Path.{◌≡◌, sym, ◌∙◌}
 use mathlib.Core.Bool.{Bool, true, false, cond, not}
-use mathlib.Core.List.{List, [], ◌∷◌}
+use mathlib.Core.List.{List}
 use Prim.Native.Nat.{ℕ, zero, suc, ◌+◌, ◌≤◌}
 use native.Mathlib.Numerals.{add-one}
 use native.Mathlib.Omega.{arith}
-use borrow.Author.Tests.{eqb-true, not-false}
+use borrow.Author.Tests.{not-false}
 use lib.Dec.{eqb}
 use lib.Ieee.{Float}
-use lib.ListN.{length}
+use lib.ListN.{length, take}
 use Rattle.scope.specs.Lists.{every}
 use Rattle.scope.specs.Asked.{Shortest}
 use Rattle.scope.specs.Refusals.{most_length}
 use Rattle.scope.specs.Permutations.{block, exceeds, counter}
 use Rattle.scope.specs.Calls.{wrong_lengths}
 use Rattle.scope.proofs.Candidates.{or_false, not_outside}
-use Rattle.classifier_gain.specs.Lent.{lent, Curves}
-use Rattle.scope.proofs.Every.{every_at}
+use Rattle.std.specs.List.{list_all}
+use Rattle.classifier_gain.specs.Asked.{deltas_of}
+use Rattle.classifier_gain.specs.declared.Curve.{Curve}
+use Rattle.classifier_gain.proofs.Lents.{long_each}
 
 module _ (s : Shortest) (L : ℕ) (bases : List Float) (curves : List (List Float)) (maximum : Float) (permutations : List ℕ) where
   abbrev count : ℕ → ℕ
@@ -37,17 +39,8 @@ module _ (s : Shortest) (L : ℕ) (bases : List Float) (curves : List (List Floa
       go false h = omega arith
 
 -- lengths that are not refused
-pub right_lengths : (k L : ℕ) (deltas0 deltas1 deltas2 : List Float) → 1 ≤ k → k ≤ 3 → wrong_lengths L (lent k deltas0 deltas1 deltas2) ≡ false → Curves k L deltas0 deltas1 deltas2 × (L ≤ most_length)
+pub right_lengths : (k L : ℕ) (curves : List Curve) → wrong_lengths L (take k (deltas_of curves)) ≡ false → (L ≤ most_length) × (list_all (λ c. eqb (length c.deltas.now) L) (take k curves) ≡ true)
 unfolding wrong_lengths
-right_lengths k L deltas0 deltas1 deltas2 some most e =
-    let (same, size) = or_false (not (every (λ c. eqb (length c) L) (lent k deltas0 deltas1 deltas2))) _ e in
-    let at = every_at (λ c. eqb (length c) L) k (deltas0 ∷ deltas1 ∷ deltas2 ∷ []) [] (not-false _ same) in (
-      record {
-        some = some;
-        most = most;
-        length0 = eqb-true (length deltas0) L (at 0 some (omega arith));
-        length1 = λ h. eqb-true (length deltas1) L (at 1 h (omega arith));
-        length2 = λ h. eqb-true (length deltas2) L (at 2 h (omega arith));
-      },
-      (not_outside most_length L size).1,
-    )
+right_lengths k L curves e =
+    let (same, size) = or_false (not (every (λ c. eqb (length c) L) (take k (deltas_of curves)))) _ e in
+    ((not_outside most_length L size).1, sym (long_each L k curves) ∙ not-false _ same)

@@ -1,195 +1,143 @@
 // The permutation test of a curve's maximum. Inside the library. After document 01, "Permutation count", and classifier_gain.rs.
 #![tactic(auto)]
 
-ghost use Rattle.std.specs.Prelude.{◌≡◌, true, false, ◌+◌, ◌-◌, ◌*◌, ◌<◌, ◌≤◌, ltb, length};
+ghost use Rattle.std.specs.Prelude.{◌≡◌, true, false, ◌+◌, ◌-◌, ◌*◌, ◌<◌, ◌≤◌, nat_lt, nat_eq, length, take};
+ghost use Rattle.std.specs.Float.Ieee.{le};
+ghost use Rattle.std.specs.List.{list_all, list_any};
 ghost use Rattle.scope.specs.Lists.{every};
-ghost use Rattle.scope.specs.Permutations.{wrong_permutations, add_deltas, added, reached, reaches, exceeds, counter, p_value, is_significant};
+ghost use Rattle.scope.specs.Permutations.{wrong_permutations, add_deltas, added, reaches, exceeds, counter, p_value, is_significant};
 ghost use Rattle.scope.specs.Calls.{wrong_lengths};
 ghost use Rattle.control.specs.Settings.{shortest_of};
-ghost use Rattle.classifier_gain.specs.Lent.{lent, Curves};
+ghost use Rattle.classifier_gain.specs.Asked.{bases_of, deltas_of};
 
+use classifier_gain::{Curve, Curves};
 use control::Shortest;
-
-// A sum for each curve.
-#[derive(Clone, Copy)]
-struct Sums(f64, f64, f64);
-
-// Each curve's delta of the index i, added to that curve's sum.
-fn add_deltas(
-    sums: Sums,
-    k: usize,
-    deltas0: &[f64],
-    deltas1: &[f64],
-    deltas2: &[f64],
-    l: usize,
-    i: usize,
-) -> Sums
-    requires { (i < l) × (l ≤ 4096) × Curves k l deltas0.now deltas1.now deltas2.now }
-    ensures { lent k result.0 result.1 result.2 ≡ add_deltas (lent k deltas0.now deltas1.now deltas2.now) i (lent k sums.0 sums.1 sums.2) }
-{
-    let sum0 = sums.0 + deltas0[i];
-    if k < 2 {
-        return Sums(sum0, sums.1, sums.2);
-    }
-    let sum1 = sums.1 + deltas1[i];
-    if k < 3 {
-        return Sums(sum0, sum1, sums.2);
-    }
-    Sums(sum0, sum1, sums.2 + deltas2[i])
-}
+use permutations::Permutations;
 
 // Whether some sum is at least the maximum.
-fn has_reached(sums: Sums, k: usize, maximum: f64) -> bool
-    requires { (1 ≤ k) × (k ≤ 3) }
-    ensures { result ≡ reached maximum (lent k sums.0 sums.1 sums.2) }
+fn has_reached<const K: usize>(sums: [f64; K], maximum: f64) -> bool
+    ensures { result ≡ list_any (λ s. le maximum s) sums.entry }
 {
-    if sums.0 >= maximum {
-        return true;
-    }
-    if k < 2 {
-        return false;
-    }
-    if sums.1 >= maximum {
-        return true;
-    }
-    if k < 3 {
-        return false;
-    }
-    sums.2 >= maximum
+    sums.iter().any(|sum| *sum >= maximum)
 }
 
-// The sums after some indices.
-fn sums_after(
-    indices: &[usize],
-    sums: Sums,
-    k: usize,
-    deltas0: &[f64],
-    deltas1: &[f64],
-    deltas2: &[f64],
-    l: usize,
-) -> Sums
-    requires { (l ≤ 4096) × Curves k l deltas0.now deltas1.now deltas2.now × (every (λ v. ltb v l) indices.now ≡ true) }
-    ensures { lent k result.0 result.1 result.2 ≡ added (lent k deltas0.now deltas1.now deltas2.now) indices.now (lent k sums.0 sums.1 sums.2) }
-{
-    let mut after = sums;
-    for j in 0..indices.len() {
-        let next = add_deltas(after, k, deltas0, deltas1, deltas2, l, indices[j]);
-        after = next;
-    }
-    after
-}
-
-// Whether a sum reaches the maximum after one of the indices.
-fn reaches_maximum(
-    indices: &[usize],
-    sums: Sums,
-    k: usize,
-    deltas0: &[f64],
-    deltas1: &[f64],
-    deltas2: &[f64],
+// The curves, all of length l, and the observed maximum, which a sum must reach.
+#[derive(Clone, Copy)]
+struct Observed<'a> {
+    curves: &'a [Curve<'a>],
     l: usize,
     maximum: f64,
-) -> bool
-    requires { (l ≤ 4096) × Curves k l deltas0.now deltas1.now deltas2.now × (every (λ v. ltb v l) indices.now ≡ true) }
-    ensures { result ≡ reaches (lent k deltas0.now deltas1.now deltas2.now) maximum indices.now (lent k sums.0 sums.1 sums.2) }
-{
-    let mut after = sums;
-    for j in 0..indices.len() {
-        let next = add_deltas(after, k, deltas0, deltas1, deltas2, l, indices[j]);
-        if has_reached(next, k, maximum) {
-            return true;
+    ghost is_long: { (l ≤ 4096) × (list_all (λ c. nat_eq (length c.deltas.now) l) curves.now ≡ true) },
+}
+
+// Sums are K, one for each curve: the compiler knows K, and so needs no loop over them.
+impl Observed<'_> {
+    // Each curve's delta of the index i, added to that curve's sum.
+    fn add_deltas<const K: usize>(self, sums: [f64; K], i: usize) -> [f64; K]
+        requires { (i < self.l) × (length self.curves.now ≡ K) }
+        ensures { result ≡ add_deltas (deltas_of self.entry.curves.now) i sums.entry }
+    {
+        let mut next = sums;
+        for c in 0..K {
+            next[c] = sums[c] + self.curves[c].deltas[i];
         }
-        after = next;
+        next
     }
-    false
+
+    // The sums after some indices.
+    fn sums_after<const K: usize>(self, indices: &[usize], sums: [f64; K]) -> [f64; K]
+        requires { (length self.curves.now ≡ K) × (every (λ v. nat_lt v self.l) indices.now ≡ true) }
+        ensures { result ≡ added (deltas_of self.entry.curves.now) indices.now sums.entry }
+    {
+        let mut after = sums;
+        for &i in indices {
+            after = self.add_deltas(after, i);
+        }
+        after
+    }
+
+    // Whether a sum reaches the maximum after one of the indices.
+    fn reaches_maximum<const K: usize>(self, indices: &[usize], sums: [f64; K]) -> bool
+        requires { (length self.curves.now ≡ K) × (every (λ v. nat_lt v self.l) indices.now ≡ true) }
+        ensures { result ≡ reaches (deltas_of self.entry.curves.now) self.entry.maximum indices.now sums.entry }
+    {
+        let mut after = sums;
+        for &i in indices {
+            after = self.add_deltas(after, i);
+            if has_reached(after, self.maximum) {
+                return true;
+            }
+        }
+        false
+    }
+
+    // One permutation: from the bases add the first m - 1 permuted deltas; a sum must reach the maximum with one of those that are tested.
+    // These are l - 2m + 1. The closed end changes nothing here: it admits l = 2m, which tests once.
+    fn exceeds_maximum<const K: usize>(
+        self,
+        permutation: &[usize],
+        bases: [f64; K],
+        shortest: Shortest,
+    ) -> bool
+        requires le_m { (1 ≤ shortest.m) × (2 * shortest.m ≤ self.l) × (length permutation.now ≡ self.l) }
+        requires curves { (length self.curves.now ≡ K) × (every (λ v. nat_lt v self.l) permutation.now ≡ true) }
+        ensures { result ≡ exceeds (shortest_of shortest) self.entry.l bases.entry (deltas_of self.entry.curves.now) self.entry.maximum permutation.now }
+    {
+        let first = shortest.m - 1;
+        let tested = self.l - 2 * shortest.m + 1;
+        let sums = self.sums_after(&permutation[..first], bases);
+        self.reaches_maximum(&permutation[first..first + tested], sums)
+    }
+
+    // One more than how many of the permutations have a sum that reaches the maximum.
+    fn count<const K: usize>(
+        self,
+        permutations: Permutations,
+        bases: [f64; K],
+        shortest: Shortest,
+    ) -> usize
+        requires le_m { (1 ≤ shortest.m) × (2 * shortest.m ≤ self.l) × (length self.curves.now ≡ K) }
+        requires are_true { wrong_permutations permutations.p self.l permutations.indices.now ≡ false }
+        ensures { result ≡ counter (shortest_of shortest) self.entry.l bases.entry (deltas_of self.entry.curves.now) self.entry.maximum permutations.entry.indices.now permutations.entry.p }
+    {
+        let mut counted = 1;
+        for q in 0..permutations.p {
+            if self.exceeds_maximum(permutations.at(q, self.l), bases, shortest) {
+                counted += 1;
+            }
+        }
+        counted
+    }
 }
 
-// After how many indices of a permutation of l the sums are tested. The closed end changes nothing here: it admits l = 2m, which tests once.
-fn tested(shortest: Shortest, l: usize) -> usize
-    requires { (2 * shortest.m ≤ l) × (l ≤ 4096) }
-    ensures { result ≡ l - 2 * shortest.m + 1 }
-{
-    l - 2 * shortest.m + 1
-}
-
-// One permutation of l indices: from the bases add the first m - 1 permuted deltas; a sum must reach the maximum with one of those that are tested.
-fn exceeds_maximum(
-    permutation: &[usize],
-    bases: Sums,
-    k: usize,
-    deltas0: &[f64],
-    deltas1: &[f64],
-    deltas2: &[f64],
-    l: usize,
+// One more than how many of the permutations have a sum that reaches the maximum.
+pub fn permutation_count(
+    curves: Curves,
+    permutations: Permutations,
     shortest: Shortest,
     maximum: f64,
-) -> bool
-    requires le_m { (1 ≤ shortest.m) × (2 * shortest.m ≤ l) × (l ≤ 4096) × (length permutation.now ≡ l) }
-    requires curves { Curves k l deltas0.now deltas1.now deltas2.now × (every (λ v. ltb v l) permutation.now ≡ true) }
-    ensures { result ≡ exceeds (shortest_of shortest) l (lent k bases.0 bases.1 bases.2) (lent k deltas0.now deltas1.now deltas2.now) maximum permutation.now }
+    l: usize,
+) -> usize
+    requires le_k { (1 ≤ curves.k) × (curves.k ≤ 3) × (1 ≤ shortest.m) × (2 * shortest.m ≤ l) }
+    requires are_long { wrong_lengths l (take curves.k (deltas_of curves.lent)) ≡ false }
+    requires are_true { wrong_permutations permutations.p l permutations.indices.now ≡ false }
+    ensures { result ≡ counter (shortest_of shortest) l (take curves.entry.k (bases_of curves.entry.lent)) (take curves.entry.k (deltas_of curves.entry.lent)) maximum permutations.entry.indices.now permutations.entry.p }
 {
-    let first = shortest.m - 1;
-    let stop = first + tested(shortest, l);
-    let sums = sums_after(
-        &permutation[..first],
-        bases,
-        k,
-        deltas0,
-        deltas1,
-        deltas2,
-        l,
-    );
-    reaches_maximum(
-        &permutation[first..stop],
-        sums,
-        k,
-        deltas0,
-        deltas1,
-        deltas2,
+    let observed = Observed {
+        curves: curves.counted(),
         l,
         maximum,
-    )
-}
-
-// One more than how many of p permutations have a sum that reaches the maximum.
-pub fn permutation_count(
-    shortest: Shortest,
-    maximum: f64,
-    k: usize,
-    base0: f64,
-    base1: f64,
-    base2: f64,
-    deltas0: &[f64],
-    deltas1: &[f64],
-    deltas2: &[f64],
-    l: usize,
-    p: usize,
-    permutations: &[usize],
-) -> usize
-    requires le_k { (1 ≤ k) × (k ≤ 3) × (1 ≤ shortest.m) × (2 * shortest.m ≤ l) }
-    requires deltas2_value { wrong_lengths l (lent k deltas0.now deltas1.now deltas2.now) ≡ false }
-    requires permutations_value { wrong_permutations p l permutations.now ≡ false }
-    ensures { result ≡ counter (shortest_of shortest) l (lent k base0 base1 base2) (lent k deltas0.now deltas1.now deltas2.now) maximum permutations.now p }
-{
-    let mut counted = 1;
-    for q in 0..p {
-        let start = q * l;
-        let stop = start + l;
-        if exceeds_maximum(
-            &permutations[start..stop],
-            Sums(base0, base1, base2),
-            k,
-            deltas0,
-            deltas1,
-            deltas2,
-            l,
+    };
+    let [first, second, third] = curves.lent;
+    match curves.k {
+        1 => observed.count(permutations, [first.base], shortest),
+        2 => observed.count(permutations, [first.base, second.base], shortest),
+        _ => observed.count(
+            permutations,
+            [first.base, second.base, third.base],
             shortest,
-            maximum,
-        ) {
-            counted += 1;
-        }
+        ),
     }
-    counted
 }
 
 // p = counter/(P+1).

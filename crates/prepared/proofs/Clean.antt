@@ -1,23 +1,27 @@
 -- What holds where a run is not refused, and where a call for its tree is not, from its matrix or from the sums of a fed run. Assumes nothing.
-use mathlib.Core.Path.{◌≡◌}
+use mathlib.Core.Path.{◌≡◌, sym, ◌∙◌}
 use mathlib.Core.Bool.{false}
+use mathlib.Core.List.{List, ◌++◌}
 use Prim.Native.Nat.{ℕ, ◌+◌, ◌-◌, ◌*◌, ◌/◌, ◌≤◌}
 use native.Mathlib.Omega.{arith}
 use borrow.Author.Tests.{ltb-false, le-ltb}
-use lib.Dec.{ltb}
+use lib.Dec.{T, ltb}
 use lib.ListN.{drop}
 use Rattle.scope.specs.Asked.{Matrix, Shortest, Source, Settings}
-use Rattle.scope.specs.Refusals.{most_rows, most_length, first_of, outside, wrong_layers}
+use Rattle.scope.specs.Refusals.{Test, most_rows, most_length, first_of, outside, wrong_layers}
 use Rattle.scope.specs.Draws.{most_stored, source_tests, any_past}
 use Rattle.scope.specs.Tree.{most_nodes}
 use Rattle.scope.specs.Calls.{sums_room, StoredAsked, stored_refusal, Room, run_tests, room_tests, TreeAsked, tree_tests, tree_refusal}
 use Rattle.scope.specs.Feed.{State, fed_run_tests, fed_tests, fed_refusal}
 use Rattle.change_in_mean.proofs.Room.{SumsClean, sums_clean}
 use Rattle.scope.proofs.Candidates.{not_outside}
-use Rattle.control.proofs.Clean.{Passed, passed, both_pass}
+use Rattle.control.specs.declared.refusal.Refusal.{Refusal}
+use Rattle.control.specs.Refused.{number_of}
+use Rattle.control.proofs.Clean.{Numbered, Passed, passed, stops, passes, both_pass}
+use Rattle.control.proofs.Follows.{numbered}
 use Rattle.control.proofs.Sizes.{Sizes, sizes, matrix}
 
--- no number up to 6 applies to a run of n rows of d columns
+-- ---- no number up to 6 applies to a run of n rows of d columns
 pub record RunClean (n d : ℕ) (s : Settings) : Type 0 where
   pub shape : Sizes most_rows n d
   pub least : (1 ≤ s.shortest.m) × (s.shortest.m ≤ 4096)
@@ -41,6 +45,51 @@ run_clean x s e =
 
 pub fed_run_clean : (st : State) (s : Settings) → first_of (fed_run_tests st s) ≡ 0 → RunClean st.n st.d s
 fed_run_clean st s e = let p = passed (fed_run_tests st s) tt e in clean_of s (sizes most_rows st.n st.d p.0) p.1.0 p.1.1.1.1
+
+-- and what its room is then asked of
+abbrev pub Small : ℕ → ℕ → Settings → Type 0
+Small n d s = (n ≤ 4096) × (d ≤ 64) × (1 ≤ s.shortest.m) × (wrong_layers s.source.layers ≡ false) × (s.source.W ≤ 4096)
+
+small : (n d : ℕ) (s : Settings) → RunClean n d s → Small n d s
+small n d s w = (w.shape.rows.1, w.shape.columns.1, w.least.0, w.layers, w.few)
+
+pub run_small : (x : Matrix) (s : Settings) → 0 ≡ first_of (run_tests x s) → Small x.n x.d s
+run_small x s e = small x.n x.d s (run_clean x s (sym e))
+
+pub fed_small : (st : State) (s : Settings) → 0 ≡ first_of (fed_run_tests st s) → Small st.n st.d s
+fed_small st s e = small st.n st.d s (fed_run_clean st s (sym e))
+
+-- ---- "The lowest number that applies", of two lists of tests
+-- r is the refusal of the first list
+by_first : (xs ys : List Test) (r : Refusal) → number_of r ≡ first_of xs → number_of r ≡ first_of (xs ++ ys)
+by_first xs ys r is = is ∙ stops xs ys (λ z. numbered r (is ∙ z))
+
+-- nothing of the first list is refused, so k is the number where it is that of the second
+by_second : (xs ys : List Test) → T (Numbered xs) → 0 ≡ first_of xs → (k : ℕ) → k ≡ first_of ys → k ≡ first_of (xs ++ ys)
+by_second xs ys h none k is = is ∙ sym (passes xs ys h (sym none))
+
+-- a run's refusal, and past it that of the room, is the call's
+module _ (a : TreeAsked) (r : Refusal) where
+  pub tree_by_run : number_of r ≡ first_of (run_tests a.matrix a.settings) → number_of r ≡ tree_refusal a
+  unfolding tree_refusal
+  tree_by_run is = by_first (run_tests a.matrix a.settings) (drop 9 (tree_tests a)) r is
+
+  pub tree_by_room : 0 ≡ first_of (run_tests a.matrix a.settings) → number_of r ≡ first_of (room_tests a.matrix.n a.matrix.d a.settings.shortest a.settings.source a.room) → number_of r ≡ tree_refusal a
+  unfolding tree_refusal
+  tree_by_room none is =
+      by_second (run_tests a.matrix a.settings) (drop 9 (tree_tests a)) tt none _
+      (by_first (room_tests a.matrix.n a.matrix.d a.settings.shortest a.settings.source a.room) (drop 13 (tree_tests a)) r is)
+
+module _ (st : State) (s : Settings) (room : Room) (r : Refusal) where
+  pub fed_by_run : number_of r ≡ first_of (fed_run_tests st s) → number_of r ≡ fed_refusal st s room
+  unfolding fed_refusal
+  fed_by_run is = by_first (fed_run_tests st s) (drop 8 (fed_tests st s room)) r is
+
+  pub fed_by_room : 0 ≡ first_of (fed_run_tests st s) → number_of r ≡ first_of (room_tests st.n st.d s.shortest s.source room) → number_of r ≡ fed_refusal st s room
+  unfolding fed_refusal
+  fed_by_room none is =
+      by_second (fed_run_tests st s) (drop 8 (fed_tests st s room)) tt none _
+      (by_first (room_tests st.n st.d s.shortest s.source room) (drop 12 (fed_tests st s room)) r is)
 
 -- its stored segments, in room for so many sums and records
 abbrev pub segments_asked : Matrix → Settings → ℕ → ℕ → StoredAsked

@@ -1,3 +1,4 @@
--- What holds where nothing is refused.
+-- What holds where nothing is refused, and what then stands.
 pub mod Clean
 pub mod Stands
+pub mod Stores

@@ -7,9 +7,9 @@ ghost use Rattle.control.specs.Settings.{settings_of};
 ghost use Rattle.feed.specs.States.{state_of};
 ghost use Rattle.prepared.specs.Answers.{room_of, FedPrepares};
 
+use crate::{Prepared, Room};
 use change_in_mean::ChangeInMean;
 use control::{Refusal, Settings};
-use crate::{Prepared, Room};
 use feed::State;
 
 // What the later sheet of a fed run is refused for up to 6: there are no cells to judge.
@@ -32,6 +32,7 @@ fn run_refusal(state: State, settings: Settings) -> Result<(), Refusal>
 }
 
 // What the later sheet of a fed run is refused for.
+#[tactic(auto, unfolding(scope::specs::Feed::fed_refusal))]
 pub fn refusal(state: State, settings: Settings, room: Room) -> Result<(), Refusal>
     ensures { number_in result ≡ fed_refusal (state_of state) (settings_of settings.entry) (room_of room) }
 {
@@ -61,12 +62,7 @@ pub fn prepare(
 ) -> Result<Prepared, Refusal>
     ensures { FedPrepares (state_of state) (settings_of settings.entry) nodes cuts result (record { sums = sums.now; rows = rows.old; gains = gains.old }) (record { sums = sums.now; rows = rows.new; gains = gains.new }) }
 {
-    let room = Room {
-        sums: sums.len(),
-        records: control::record_room(rows.len(), gains.len()),
-        nodes,
-        cuts,
-    };
+    let room = Room::lent(sums, rows, gains, nodes, cuts);
     refusal(state, settings, room)?;
     let len = control::sums_len(state.n, state.d);
     let gain = ChangeInMean {

@@ -7,7 +7,7 @@ ghost use Rattle.scope.specs.Refusals.{first_of, wrong_layers};
 ghost use Rattle.scope.specs.Calls.{run_tests, room_tests, tree_refusal};
 ghost use Rattle.control.specs.Refused.{number_in};
 ghost use Rattle.control.specs.Settings.{matrix_of, shortest_of, source_of, settings_of};
-ghost use Rattle.prepared.specs.Answers.{room_of, tree_asked, TreePrepares};
+ghost use Rattle.prepared.specs.Answers.{room_of, room_in, tree_asked, TreePrepares};
 
 use control::{Matrix, Refusal, Settings, Shortest, Source};
 
@@ -20,6 +20,20 @@ pub struct Room {
     pub records: usize,
     pub nodes: usize,
     pub cuts: usize,
+}
+
+impl Room {
+    // The room where these slices are lent, and others for so many nodes and cuts.
+    fn lent(sums: &[f64], rows: &[usize], gains: &[f64], nodes: usize, cuts: usize) -> Room
+        ensures { room_of result ≡ room_in (record { sums = sums.now; rows = rows.now; gains = gains.now }) nodes cuts }
+    {
+        Room {
+            sums: sums.len(),
+            records: control::record_room(rows.len(), gains.len()),
+            nodes,
+            cuts,
+        }
+    }
 }
 
 // How many prefix sums stand, and how many records the stored segments left.
@@ -69,6 +83,7 @@ pub fn room_refusal(
 }
 
 // What a call for the tree is refused for.
+#[tactic(auto, unfolding(scope::specs::Calls::tree_refusal))]
 pub fn tree_refusal(matrix: Matrix, settings: Settings, room: Room) -> Result<(), Refusal>
     ensures { number_in result ≡ tree_refusal (record { matrix = matrix_of matrix.entry; settings = settings_of settings.entry; room = room_of room }) }
 {
@@ -98,12 +113,7 @@ pub fn prepare(
 ) -> Result<Prepared, Refusal>
     ensures { TreePrepares (tree_asked (matrix_of matrix.entry) (settings_of settings.entry) (record { sums = sums.old; rows = rows.old; gains = gains.old }) nodes cuts) result (record { sums = sums.old; rows = rows.old; gains = gains.old }) (record { sums = sums.new; rows = rows.new; gains = gains.new }) }
 {
-    let room = Room {
-        sums: sums.len(),
-        records: control::record_room(rows.len(), gains.len()),
-        nodes,
-        cuts,
-    };
+    let room = Room::lent(sums, rows, gains, nodes, cuts);
     tree_refusal(matrix, settings, room)?;
     let stored = segmentation::store_segments(
         matrix,

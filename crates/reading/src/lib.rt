@@ -8,8 +8,8 @@ ghost use Rattle.std.specs.Prelude.{◌≤◌, length, IfSome};
 ghost use Rattle.reading.specs.Taken.{Filled, Fetched, Rested, Taken};
 ghost use Rattle.reading.specs.Known.{FilledOf, FetchedOf, RestedOf, TakenOf};
 
-use deck::{Read, State};
-use line::{BARRED, MOST_CELLS};
+use deck::{BadLine, State};
+use line::{BARRED, Given, MOST_CELLS};
 use std::io;
 
 // How many bytes are kept. A deck with a sheet has less than 25,000: 64 pairs, and 2,048 cells of six bytes, each on a line of its own at most.
@@ -18,62 +18,48 @@ pub const KEPT: usize = 65536;
 // So many bytes has a lot at most.
 const LOT: usize = 65536;
 
-// A proved loop has to end, and nothing says that the input does: the turns are counted down from a number that no run uses up, and that keeps every line's
-// number in a `usize`.
+// A proved loop has to end, and nothing says that the input does: there are as many turns as no run uses up, and so few that every line's number is a `u64`.
 const TURNS: u64 = 0x8000_0000_0000;
 
-// How many bytes of the input stand in the buffer: all of them, if they don't fill it.
-#[derive(Clone, Copy)]
-enum First {
-    Bytes(usize),
-    Failed,
+// The input can't be read to its end.
+#[derive(Clone, Copy, Debug, PartialEq, Eq)]
+pub struct Unreadable;
+
+impl From<io::Error> for Unreadable {
+    fn from(_error: io::Error) -> Unreadable {
+        Unreadable
+    }
 }
 
-// One read: the state after its bytes, the input's end, or a read that failed.
-#[derive(Clone, Copy)]
-enum Lot {
-    More(State),
-    Ended,
-    Failed,
-}
-
-// The whole input.
-#[derive(Clone, Copy)]
-pub enum Input {
-    Read(Read),
-    Failed,
-}
-
-// Reads until the buffer is full or the input ends.
-fn keep<R: io::Read>(input: &mut R, kept: &mut [u8]) -> First
+// Reads until the buffer is full or the input ends. Tells how many bytes of the input stand in it: all of them, if they don't fill it.
+fn keep<R: io::Read>(input: &mut R, kept: &mut [u8]) -> Result<usize, Unreadable>
     ensures filled { Filled kept.new result }
     ensures known { FilledOf (R.remaining input.old) (R.remaining input.new) kept.new result }
 {
     let mut n = 0;
     while n < kept.len() {
-        match input.read(&mut kept[n..]) {
-            Ok(0) => return First::Bytes(n),
-            Ok(more) => n += more,
-            Err(_) => return First::Failed,
+        match input.read(&mut kept[n..])? {
+            0 => return Ok(n),
+            more => n += more,
         }
     }
-    First::Bytes(n)
+    Ok(n)
 }
 
+// The state after one lot's bytes; none at the input's end.
 fn read_lot<R: io::Read>(
     input: &mut R,
-    s: State,
+    state: State,
     cells: &mut [f64; MOST_CELLS],
     forbidden: &mut [usize; BARRED],
-) -> Lot
-    ensures fetched { Fetched s cells.old forbidden.old cells.new forbidden.new result }
-    ensures known { FetchedOf (R.remaining input.old) (R.remaining input.new) s cells.old forbidden.old cells.new forbidden.new result }
+) -> Result<Option<State>, Unreadable>
+    ensures fetched { Fetched state cells.old forbidden.old cells.new forbidden.new result }
+    ensures known { FetchedOf (R.remaining input.old) (R.remaining input.new) state cells.old forbidden.old cells.new forbidden.new result }
 {
     let mut lot = [0u8; LOT];
-    match input.read(&mut lot) {
-        Ok(0) => Lot::Ended,
-        Ok(n) => Lot::More(deck::feed(s, &lot[..n], cells, forbidden)),
-        Err(_) => Lot::Failed,
+    match input.read(&mut lot)? {
+        0 => Ok(None),
+        n => Ok(Some(deck::feed(state, &lot[..n], cells, forbidden))),
     }
 }
 
@@ -83,40 +69,35 @@ fn read_rest<R: io::Read>(
     first: State,
     cells: &mut [f64; MOST_CELLS],
     forbidden: &mut [usize; BARRED],
-) -> Input
+) -> Result<Result<Given, BadLine>, Unreadable>
     ensures rested { Rested first cells.old forbidden.old cells.new forbidden.new result }
     ensures known { IfSome (R.remaining input.old) (λ xs. RestedOf xs first cells.old forbidden.old cells.new forbidden.new result) }
 {
-    let mut s = first;
-    let mut turns = TURNS;
-    while turns > 0 {
-        match read_lot(input, s, cells, forbidden) {
-            Lot::More(next) => s = next,
-            Lot::Ended => return Input::Read(deck::finish(s)),
-            Lot::Failed => return Input::Failed,
+    let mut state = first;
+    for _turn in 0..TURNS {
+        match read_lot(input, state, cells, forbidden)? {
+            Some(next) => state = next,
+            None => return Ok(deck::finish(state)),
         }
-        turns -= 1;
     }
-    Input::Failed
+    Err(Unreadable)
 }
 
-// The whole input's reading. An input that can't be read to its end has none.
+// The whole input's reading.
 pub fn read_all<R: io::Read>(
     input: &mut R,
     kept: &mut [u8],
     cells: &mut [f64; MOST_CELLS],
     forbidden: &mut [usize; BARRED],
-) -> Input
+) -> Result<Result<Given, BadLine>, Unreadable>
     requires { length kept.old ≤ 65536 }
     ensures taken { Taken kept.new cells.old forbidden.old cells.new forbidden.new result }
     ensures known { IfSome (R.remaining input.old) (λ xs. TakenOf xs cells.old forbidden.old cells.new forbidden.new result) }
 {
-    let First::Bytes(n) = keep(input, kept) else {
-        return Input::Failed;
-    };
-    let s = deck::feed(deck::start(), &kept[..n], cells, forbidden);
+    let n = keep(input, kept)?;
+    let state = deck::feed(deck::start(), &kept[..n], cells, forbidden);
     if n < kept.len() {
-        return Input::Read(deck::finish(s));
+        return Ok(deck::finish(state));
     }
-    read_rest(input, s, cells, forbidden)
+    read_rest(input, state, cells, forbidden)
 }

@@ -83,10 +83,7 @@ pub fn explain(asked: Asked, n: usize, records: Records, row: Position) -> Why
     ensures { Told asked.entry n records.entry row.0 result }
 {
     let mut segment = Segment::run(n);
-    loop {
-        let Verdict::Cut(_, choice) = verdict::judge(asked, segment, records) else {
-            return reason_in(asked, segment, row);
-        };
+    while let Verdict::Cut(_, choice) = verdict::judge(asked, segment, records) {
         let split = choice.best_split;
         if row == split {
             return Why::Cut(segment, choice.origin);
@@ -97,4 +94,5 @@ pub fn explain(asked: Asked, n: usize, records: Records, row: Position) -> Why
             segment.start = split;
         }
     }
+    reason_in(asked, segment, row)
 }

@@ -1,52 +1,27 @@
--- `gain_from_likelihoods` meets its contract: a number, and nothing is told; or 0 and the curve.
-use mathlib.Core.Path.{◌≡◌, sym, ◌∙◌, ap}
-use mathlib.Core.List.{List}
-use Prim.Native.Nat.{ℕ}
-use lib.Ieee.{Float}
-use lib.ListN.{length}
-use Rattle.scope.specs.Lists.{holding}
-use Rattle.scope.specs.Refusals.{told_unless}
+-- `gain_from_likelihoods` meets its contract: a refusal, and nothing is told; or the curve.
+use Rattle.std.proofs.Common.{rules, ◌≡◌, Err, length, sym, refl}
 use Rattle.scope.specs.Curves.{curve}
-use Rattle.scope.specs.Calls.{CurveAsked, curve_refusal, curve_call}
-use Rattle.control.proofs.Sizes.{told_nothing}
+use Rattle.scope.specs.Calls.{curve_call}
+use Rattle.control.proofs.Follows.{held_refused, held_given}
 use Rattle.entry_curves.specs.Left.{curve_asked}
 use Rattle.entry_curves.proofs.Admitted.{curve_admitted}
 use Rattle.entry_curves.proofs.gain_from_likelihoods.Goals as goal
-use Rattle.entry_curves.proofs.gain_from_likelihoods.Lts as lts
-use Rattle.entry_curves.proofs.gain_from_likelihoods.Tie as tie
-use Rattle.entry_curves.proofs.gain_from_likelihoods.Reads as reads
 
-abbrev At-Else-no-ne0 : Type 0
-At-Else-no-ne0 = lts.Else1 tie.the-claims reads.Pre reads.Post
-
-abbrev At-Start : Type 0
-At-Start = lts.Start tie.the-claims reads.Pre reads.Post
-
-abbrev asked : At-Start → CurveAsked
-asked s = curve_asked s.args.l0.now s.args.l1.now s.args.curve.now
-
--- past the test nothing is refused
-free : (c : At-Else-no-ne0) → curve_refusal (asked c.before.before.before.before.before) ≡ 0
-free c = sym c.curve_refusal-no.ensures ∙ c.if-no-ne0.false
-
-pub returns-then-no-ne0 : goal.returns-then-no-ne0
+pub returns-in_err-curve_refusal : goal.returns-in_err-curve_refusal
 unfolding curve_call
-returns-then-no-ne0 c =
-    let no = c.curve_refusal-no in
+returns-in_err-curve_refusal c =
+    let r = c.in_err-curve_refusal.field-0.0 in
+    let is : c.from_residual.result ≡ Err r = search rules in
     record {
-      answer = no.ensures;
-      curve = sym (ap (λ (told : List Float). holding told c.args.curve.now) (told_nothing (curve_refusal (asked c.before.before.before.before.before.before)) _ (λ z. c.if-no-ne0.true (no.ensures ∙ z))));
+      answer = rw is c.in_err-curve_refusal.ensures;
+      curve = held_refused r c.in_err-curve_refusal.ensures (λ l. l) (curve c.args.l0.now c.args.l1.now (length c.args.l0.now)) c.args.curve.now refl;
     }
 
 pub gain_from_likelihoods-requires : goal.gain_from_likelihoods-requires
-gain_from_likelihoods-requires c = curve_admitted (asked c.before.before.before.before.before.before.before) (free c.before.before)
+gain_from_likelihoods-requires c = curve_admitted (curve_asked c.args.l0.now c.args.l1.now c.args.curve.now) (sym c.in_ok-curve_refusal.ensures)
 
 pub returns : goal.returns
 unfolding curve_call
 returns c =
-    let none = sym (free c.before.before.before.before.before) in
-    let told = curve c.args.l0.now c.args.l1.now (length c.args.l0.now) in
-    record {
-      answer = none;
-      curve = c.gain_from_likelihoods.ensures ∙ ap (λ (no : ℕ). holding (told_unless no told) c.args.curve.now) none;
-    }
+    let none = c.in_ok-curve_refusal.ensures in
+    record { answer = none; curve = held_given none (λ l. l) (curve c.args.l0.now c.args.l1.now (length c.args.l0.now)) c.args.curve.now c.gain_from_likelihoods.ensures }

@@ -1,5 +1,5 @@
 -- `stored_segments` meets its contract: the refusal, and nothing is told; or the records, with the sums left.
-use Rattle.std.proofs.Common.{◌≡◌, sym, ◌∙◌, ap, length, rules}
+use Rattle.std.proofs.Common.{◌≡◌, ◌∙◌, ap, length, rules}
 use Rattle.scope.specs.Refusals.{given}
 use Rattle.scope.specs.Calls.{sums_of, stored_refusal, stored_of, stored_call}
 use Rattle.control.specs.Refused.{number_of}
@@ -19,9 +19,6 @@ returns-in_err-stored_refusal c =
     let is : number_of r ≡ stored_refusal a = rw (← c.record_room-room.ensures) c.in_err-stored_refusal.ensures in
     let answer = answer_refused r is (length (stored_of a)) in
     record { answer = search rules; held = none_held r is (sums_of a.matrix) (stored_of a) lent }
-
-pub store_segments-requires : goal.store_segments-requires
-store_segments-requires c = sym (rw (← c.record_room-room.ensures) c.in_ok-stored_refusal.ensures)
 
 pub returns : goal.returns
 unfolding stored_call

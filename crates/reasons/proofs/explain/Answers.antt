@@ -3,7 +3,6 @@ use Rattle.std.proofs.Common.{◌<◌, sym, ◌∙◌, arith, rules}
 use borrow.Author.Tests.{eqb-true}
 use Rattle.stored.specs.Records.{records_of}
 use Rattle.verdict.specs.Rules.{over}
-use Rattle.verdict.proofs.Sized.{sized_within}
 use Rattle.reasons.proofs.Walk.{not_cut, down_whole, told_uncut, told_cut, far, down_left, down_right}
 use Rattle.reasons.proofs.explain.Goals as goal
 
@@ -13,20 +12,9 @@ loop-choice-init c =
     let run = c.run-segment.ensures in
     rw (run.0, run.1) (down_whole s.asked s.n (records_of s.records) s.row.0 c.requires.2.least c.requires.1)
 
--- the stop of a part is within the sizes
-pub judge-requires : goal.judge-requires
-judge-requires c =
-    let d = c.loop-choice.invariant in
-    (omega (arith, d.low, d.high), sized_within c.args.asked c.loop-choice.segment.stop.0 c.args.n d.fits c.requires.0)
-
-pub reason_in-requires : goal.reason_in-requires
-reason_in-requires c =
-    let d = c.loop-choice.invariant in
-    (sized_within c.args.asked c.loop-choice.segment.stop.0 c.args.n d.fits c.requires.0, d.low, d.high)
-
 -- it is not cut
-pub returns-in_default : goal.returns-in_default
-returns-in_default c segments stand =
+pub returns : goal.returns
+returns c segments stand =
     let s = c.args in
     let at = c.loop-choice in
     let rs = records_of s.records in

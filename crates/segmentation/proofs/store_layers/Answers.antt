@@ -1,6 +1,5 @@
 -- `store_layers` meets its contract: after i layers the records of the first i stand at the front.
 use Rattle.std.proofs.Common.{◌∙◌, ap, ◌+◌, take, arith}
-use lib.Seq.{take_all}
 use Rattle.scope.specs.Layers.{layer_count, seeded_from, stored}
 use Rattle.layers.proofs.Layered.{right_at, total_next, total_within}
 use Rattle.stored.proofs.Flat.{put_none, put_more, put_long}
@@ -15,29 +14,23 @@ loop-i-init c = put_none _ _ _
 pub new-layer-requires : goal.new-layer-requires
 new-layer-requires c = (c.requires.n_bound.0, right_at c.args.layers.now c.loop-i.i c.requires.layers_value (omega arith))
 
-pub store_layer-count-requires : goal.store_layer-count-requires
-store_layer-count-requires c =
-    let a = c.args in
-    let layers = a.layers.now in
+pub store_layer-count-requires-clause-count_in_bounds : goal.store_layer-count-requires-clause-count_in_bounds
+store_layer-count-requires-clause-count_in_bounds c =
+    let s = c.args in
+    let layers = s.layers.now in
     let l = c.loop-i in
-    let new = c.new-layer in
-    let counted = new.result.made.counted ∙ ap layer_count new.ensures.1 in
-    let few = layers_few (search_over a.gain a.allowed) a.n (take l.i layers) in
+    let counted = c.new-layer.result.made.counted ∙ ap layer_count c.new-layer.ensures.1 in
+    let few = layers_few (search_over s.gain s.allowed) s.n (take l.i layers) in
     let more = total_next layers l.i (omega arith) in
     let within = total_within layers (l.i + 1) in
     let long = put_long l.invariant in
     let told = l.invariant.told in
-    record { m_bound = (c.requires.n_bound.1, rw new.ensures.0 c.requires.n_bound.2); count_in_bounds = (omega arith, omega arith) }
+    (omega arith, omega arith)
 
 pub loop-i-preserved : goal.loop-i-preserved
 loop-i-preserved c =
-    let a = c.args in
+    let s = c.args in
     let l = c.loop-i in
     let new = c.new-layer in
     let put = rw (new.result.made.counted, new.ensures.0, new.ensures.1) at c.store_layer-count.ensures in
-    rw (layers_next (search_over a.gain a.allowed) a.n a.layers.now l.i (omega arith)) (put_more l.invariant put)
-
-pub returns : goal.returns
-returns c =
-    let l = c.loop-i in
-    rw (take_all l.i c.args.layers.now (omega arith)) at l.invariant
+    rw (layers_next (search_over s.gain s.allowed) s.n s.layers.now l.i (omega arith)) (put_more l.invariant put)
