@@ -118,11 +118,11 @@ module _ (q : Run) (sums : List Float) (entry number : ℕ) (before : Slices) (c
     grew : answered to_counts g ≡ answer
     grew = left.answer ∙ ap (λ (k : ℕ). unless k (counts_of q)) same
 
-    host : GrownTold answer r counts₀ counts₁
-    host = rw grew at heard
+    counted : GrownTold answer r counts₀ counts₁
+    counted = rw grew at heard
 
     counts_told_lem : counts₁ ≡ holding (counts_told answer) counts₀
-    counts_told_lem = host.counts ∙ go number refl
+    counts_told_lem = counted.counts ∙ go number refl
       where
         go : (k : ℕ) → number ≡ k → told_or (λ c. four_in c.nodes c.records c.cuts c.stored) (unless k (counts_of q)) counts₀ ≡ holding (counts_told (unless k (counts_of q))) counts₀
         go zero e = four _ _ _ _ counts₀ (roomy (ltb (length counts₀) 4) refl)
@@ -141,12 +141,12 @@ module _ (q : Run) (sums : List Float) (entry number : ℕ) (before : Slices) (c
 
         go : (k : ℕ) → number ≡ k → Demand q
         go zero e = found g (counts_of q) (rw e at grew) left.demand
-        go (suc k) e = absurd (omega (arith, rw e at host.number))
+        go (suc k) e = absurd (omega (arith, rw e at counted.number))
 
     stored : RunStored (run_follows q sums number) q r before (whole before room after) counts₀ counts₁
     stored =
         record {
-          number = host.number;
+          number = counted.number;
           held = subst (λ (k : ℕ). Held (told_unless k sums) (told_unless k (records_of q)) (record_slices before) (record_slices after)) same left.held;
           nodes = ap (λ l. l ++ drop room before.nodes) (left.nodes ∙ ap (λ (k : ℕ). holding (map to_node (told_unless k (nodes 0 (tree_of q)))) (take room before.nodes)) same) ∙ nodes_whole;
           cuts = left.cuts ∙ ap (λ (k : ℕ). holding (told_unless k (sheet (tree_of q))) before.cuts) same;

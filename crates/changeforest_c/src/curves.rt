@@ -43,13 +43,31 @@ pub extern "C" fn changeforest_permutation_test(
     ensures { PermutationStored (record { shortest = record { m = m; closed = closed }; alpha = alpha; maximum = maximum; k = k; bases = base0 ∷ base1 ∷ base2 ∷ []; curves = deltas0.now ∷ deltas1.now ∷ deltas2.now ∷ []; P = p; permutations = permutations.now }) result counter.old counter.new p_value.old p_value.new significant.old significant.new }
 {
     let lent = [
-        Curve { base: base0, deltas: deltas0 },
-        Curve { base: base1, deltas: deltas1 },
-        Curve { base: base2, deltas: deltas2 },
+        Curve {
+            base: base0,
+            deltas: deltas0,
+        },
+        Curve {
+            base: base1,
+            deltas: deltas1,
+        },
+        Curve {
+            base: base2,
+            deltas: deltas2,
+        },
     ];
-    let permutations = Permutations { indices: permutations, p };
+    let permutations = Permutations {
+        indices: permutations,
+        p,
+    };
     let shortest = Shortest { m, closed };
-    match entry_curves::permutation_test(Curves { lent, k }, permutations, shortest, alpha, maximum) {
+    match entry_curves::permutation_test(
+        Curves { lent, k },
+        permutations,
+        shortest,
+        alpha,
+        maximum,
+    ) {
         Ok(found) => {
             *counter = found.counter;
             *p_value = found.p_value;

@@ -20,9 +20,18 @@ pub extern "C" fn changeforest_split_candidates(
     ensures { CandidatesStored (record { n = n; shortest = record { m = m; closed = closed }; forbidden = forbidden.now; start = start; stop = stop; room = length rows.old }) result rows.old rows.new count.old count.new }
 {
     let shortest = Shortest { m, closed };
-    let allowed = Allowed { shortest, forbidden };
-    let segment = Segment { start: Position(start), stop: Position(stop) };
-    told::tell_value(entry_mean::split_candidates(n, allowed, segment, rows), count)
+    let allowed = Allowed {
+        shortest,
+        forbidden,
+    };
+    let segment = Segment {
+        start: Position(start),
+        stop: Position(stop),
+    };
+    told::tell_value(
+        entry_mean::split_candidates(n, allowed, segment, rows),
+        count,
+    )
 }
 
 // The gain of the split of [start, stop); sums takes the prefix sums.
@@ -40,7 +49,10 @@ pub extern "C" fn changeforest_gain(
     ensures { GainStored (record { matrix = record { cells = cells.now; n = n; d = d }; start = start; stop = stop; split = split; room = length sums.old }) result sums.old sums.new gain.old gain.new }
 {
     let matrix = Matrix { cells, n, d };
-    let segment = Segment { start: Position(start), stop: Position(stop) };
+    let segment = Segment {
+        start: Position(start),
+        stop: Position(stop),
+    };
     let answer = entry_mean::gain(matrix, segment, Position(split), sums);
     told::tell_value(answer, gain)
 }
@@ -64,7 +76,17 @@ pub extern "C" fn changeforest_find_best_split(
 {
     let matrix = Matrix { cells, n, d };
     let shortest = Shortest { m, closed };
-    let allowed = Allowed { shortest, forbidden };
-    let segment = Segment { start: Position(start), stop: Position(stop) };
-    told::tell_split(entry_mean::find_best_split(matrix, allowed, segment, sums), split, gain)
+    let allowed = Allowed {
+        shortest,
+        forbidden,
+    };
+    let segment = Segment {
+        start: Position(start),
+        stop: Position(stop),
+    };
+    told::tell_split(
+        entry_mean::find_best_split(matrix, allowed, segment, sums),
+        split,
+        gain,
+    )
 }

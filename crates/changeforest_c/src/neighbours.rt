@@ -34,7 +34,17 @@ pub extern "C" fn changeforest_predict(
     ensures { PredictLeft (record { cells = cells.now; n = n; d = d }) start stop split result (record { order = record { ordering = ordering.old; distances = distances.old }; predictions = predictions.old }) (record { order = record { ordering = ordering.new; distances = distances.new }; predictions = predictions.new }) }
 {
     let matrix = Matrix { cells, n, d };
-    let segment = Segment { start: Position(start), stop: Position(stop) };
-    let answer = entry_neighbours::predict(matrix, segment, Position(split), ordering, distances, predictions);
+    let segment = Segment {
+        start: Position(start),
+        stop: Position(stop),
+    };
+    let answer = entry_neighbours::predict(
+        matrix,
+        segment,
+        Position(split),
+        ordering,
+        distances,
+        predictions,
+    );
     told::tell_done(answer)
 }

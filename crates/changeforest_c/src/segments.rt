@@ -25,7 +25,10 @@ pub extern "C" fn changeforest_stored_segments(
 {
     let matrix = Matrix { cells, n, d };
     let shortest = Shortest { m, closed };
-    let allowed = Allowed { shortest, forbidden };
+    let allowed = Allowed {
+        shortest,
+        forbidden,
+    };
     let source = Source { layers, draws, w };
     let answer = entry_segments::stored_segments(matrix, allowed, source, sums, rows, gains);
     told::tell_value(answer, count)

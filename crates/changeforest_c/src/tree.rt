@@ -30,7 +30,10 @@ pub extern "C" fn changeforest_tree(
 {
     let shortest = Shortest { m, closed };
     let settings = Settings {
-        allowed: Allowed { shortest, forbidden },
+        allowed: Allowed {
+            shortest,
+            forbidden,
+        },
         threshold,
         source: Source { layers, draws, w },
     };

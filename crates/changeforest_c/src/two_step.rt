@@ -21,8 +21,14 @@ pub extern "C" fn changeforest_pick(
     ensures { PickStored (record { n = n; shortest = record { m = m; closed = closed }; forbidden = forbidden.now; start = start; stop = stop; guess = guess; curve = curve.now }) result split.old split.new gain.old gain.new }
 {
     let shortest = Shortest { m, closed };
-    let allowed = Allowed { shortest, forbidden };
-    let segment = Segment { start: Position(start), stop: Position(stop) };
+    let allowed = Allowed {
+        shortest,
+        forbidden,
+    };
+    let segment = Segment {
+        start: Position(start),
+        stop: Position(stop),
+    };
     let answer = entry_two_step::pick(curve, n, allowed, segment, Position(guess));
     told::tell_split(answer, split, gain)
 }
@@ -44,7 +50,10 @@ pub extern "C" fn changeforest_guesses(
 ) -> u32
     ensures { GuessesStored (record { n = n; shortest = record { m = m; closed = closed }; forbidden = list_given given forbidden.now; start = start; stop = stop }) result first.old first.new second.old second.new third.old third.new count.old count.new }
 {
-    let segment = Segment { start: Position(start), stop: Position(stop) };
+    let segment = Segment {
+        start: Position(start),
+        stop: Position(stop),
+    };
     let shortest = Shortest { m, closed };
     let listed = given.then_some(forbidden);
     match entry_two_step::guesses(n, shortest, listed, segment) {

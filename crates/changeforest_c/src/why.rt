@@ -39,7 +39,10 @@ pub extern "C" fn changeforest_why(
 {
     let shortest = Shortest { m, closed };
     let settings = Settings {
-        allowed: Allowed { shortest, forbidden },
+        allowed: Allowed {
+            shortest,
+            forbidden,
+        },
         threshold,
         source: Source { layers, draws, w },
     };
@@ -47,7 +50,17 @@ pub extern "C" fn changeforest_why(
     match entry_why::why(matrix, settings, Position(row), sums, rows, gains, text) {
         Ok(found) => {
             told::put_why(
-                found.why, found.written, reason, start, stop, kind, number, length, a, b, gain,
+                found.why,
+                found.written,
+                reason,
+                start,
+                stop,
+                kind,
+                number,
+                length,
+                a,
+                b,
+                gain,
             );
             0
         }

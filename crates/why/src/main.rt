@@ -49,9 +49,7 @@ fn answer_row<R: io::Read>(
     let mut forbidden = [0usize; BARRED];
     let read = reading::read_all(input, kept, &mut cells, &mut forbidden)?;
     let mut sums = [0.0; SUMS];
-    Ok(why_answers::answer(
-        read, row, &cells, &forbidden, &mut sums, out,
-    ))
+    Ok(why_answers::answer(read, row, &cells, &forbidden, &mut sums, out))
 }
 
 // The text for the row that the argument asks. Where it asks none, nothing is read.
