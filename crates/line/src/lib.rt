@@ -2,7 +2,7 @@
 // Inside the library. A function follows its definition of specs/Walk.antt; proofs/ shows that a line comes to what the definitions read in it.
 #![tactic(auto)]
 
-ghost use Rattle.std.specs.Prelude.{◌≡◌, ◌<◌, Bool, slice_set};
+ghost use Rattle.std.specs.Prelude.{◌≡◌, ◌<◌, slice_set, unwrap_or};
 ghost use Rattle.token.specs.Walk.{option_of, as_number, as_cell};
 ghost use Rattle.line.specs.Walk.{up_to, nothing, onward as Walk·onward, malformed as Walk·malformed, place_of, number_at, number_end, bits_end, cell_at, cell_end, signed, ended, reads, stored_cell, stored_pair, stored_cells, stored_forbidden};
 
@@ -96,7 +96,7 @@ pub struct Ended {
     pub event: Event,
 }
 
-// One more, up to a top.
+// One more, up to a top. A count above the top stays as it is.
 pub fn up_to(top: usize, k: usize) -> usize
     ensures { result ≡ up_to top k }
 {
@@ -111,12 +111,6 @@ fn onward(place: Place, given: Given) -> Ended
         given,
         event: Event::Nothing,
     }
-}
-
-fn malformed(given: Given) -> Ended
-    ensures { result ≡ Walk·malformed given }
-{
-    onward(Place::Malformed, given)
 }
 
 fn place_of(word: Word) -> Place
@@ -149,24 +143,6 @@ fn number_at(number: Number, given: Given, v: usize) -> Ended
     }
 }
 
-fn number_end(number: Number, given: Given, v: Option<usize>) -> Ended
-    ensures { result ≡ number_end number given (option_of v) }
-{
-    match v {
-        Some(v) => number_at(number, given, v),
-        None => malformed(given),
-    }
-}
-
-fn bits_end(given: Given, bits: Option<u64>) -> Ended
-    ensures { result ≡ bits_end given (option_of bits) }
-{
-    match bits {
-        Some(threshold) => onward(Place::Cfg, Given { threshold, ..given }),
-        None => malformed(given),
-    }
-}
-
 // A cell, of a value that is wide or not, after k others of its line.
 fn cell_at(k: usize, given: Given, wide: bool, value: f64) -> Ended
     requires { k < 64 }
@@ -183,26 +159,43 @@ fn cell_at(k: usize, given: Given, wide: bool, value: f64) -> Ended
     }
 }
 
-// The same of a cell's digits, behind a minus or not. A minus is only on a cell that isn't 0.
-fn signed_end(k: usize, given: Given, minus: bool, digits: Digits) -> Ended
+// The same of a cell's digits, behind a minus or not, where they are a number. A minus is only on one that isn't 0.
+fn signed_end(k: usize, given: Given, minus: bool, digits: Digits) -> Option<Ended>
     requires { k < 64 }
-    ensures { result ≡ cell_end k given (signed minus (as_number digits)) }
+    ensures { unwrap_or result (Walk·malformed given) ≡ cell_end k given (signed minus (as_number digits)) }
 {
-    match digits.value() {
-        Some(v) if !minus => cell_at(k, given, 32767 < v, nearest_usize_to_f64(v)),
-        Some(v) if v > 0 => cell_at(k, given, 32768 < v, -nearest_usize_to_f64(v)),
-        _ => malformed(given),
+    match digits.value()? {
+        v if !minus => Some(cell_at(k, given, 32767 < v, nearest_usize_to_f64(v))),
+        v if v > 0 => Some(cell_at(k, given, 32768 < v, -nearest_usize_to_f64(v))),
+        _ => None,
     }
 }
 
-fn cell_end(k: usize, given: Given, cell: Cell) -> Ended
+fn cell_end(k: usize, given: Given, cell: Cell) -> Option<Ended>
     requires { k < 64 }
-    ensures { result ≡ cell_end k given (as_cell cell) }
+    ensures { unwrap_or result (Walk·malformed given) ≡ cell_end k given (as_cell cell) }
 {
     match cell {
-        Cell::Empty => malformed(given),
+        Cell::Empty => None,
         Cell::Plain(digits) => signed_end(k, given, false, digits),
         Cell::Minus(digits) => signed_end(k, given, true, digits),
+    }
+}
+
+// What the field that a line awaits comes to, if it helps.
+fn field_read(place: Place, given: Given, token: Token) -> Option<Ended>
+    ensures { unwrap_or result (Walk·malformed given) ≡ ended place given (reads token) }
+{
+    match place {
+        Place::Word => Some(onward(place_of(token.word), given)),
+        Place::Number(number) => Some(number_at(number, given, token.cell.plain().value()?)),
+        Place::Threshold => {
+            let threshold = token.bits()?;
+            Some(onward(Place::Cfg, Given { threshold, ..given }))
+        }
+        Place::Row => cell_end(0, given, token.cell),
+        Place::Cells(k) if k < MOST_IN_ROW => cell_end(k, given, token.cell),
+        Place::Cells(_) | Place::Cfg | Place::No | Place::Malformed => None,
     }
 }
 
@@ -210,14 +203,7 @@ fn cell_end(k: usize, given: Given, cell: Cell) -> Ended
 pub fn field_end(place: Place, given: Given, token: Token) -> Ended
     ensures { result ≡ ended place given (reads token) }
 {
-    match place {
-        Place::Word => onward(place_of(token.word), given),
-        Place::Number(number) => number_end(number, given, token.cell.plain().value()),
-        Place::Threshold => bits_end(given, token.bits()),
-        Place::Row => cell_end(0, given, token.cell),
-        Place::Cells(k) if k < MOST_IN_ROW => cell_end(k, given, token.cell),
-        Place::Cells(_) | Place::Cfg | Place::No | Place::Malformed => malformed(given),
-    }
+    field_read(place, given, token).unwrap_or(onward(Place::Malformed, given))
 }
 
 // One that has no room is dropped.

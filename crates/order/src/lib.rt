@@ -22,16 +22,15 @@ fn insert_row(ds: &[f64], row: u32, out: &mut [u32])
     requires { (length ds.now ≤ 1024) × (row < length ds.now) × (1 ≤ length out.old) × (length out.old ≤ 1024) × Below (length ds.now) (drop 1 out.old) }
     ensures { out.new ≡ insert ds.now row (drop 1 out.old) }
 {
-    let last = out.len() - 1;
-    for hole in 0..last {
-        let next = out[hole + 1];
-        if !is_nearer(ds, next, row) {
-            out[hole] = row;
-            return;
+    let mut hole = 0;
+    for next in 1..out.len() {
+        if !is_nearer(ds, out[next], row) {
+            break;
         }
-        out[hole] = next;
+        out[hole] = out[next];
+        hole = next;
     }
-    out[last] = row;
+    out[hole] = row;
 }
 
 // The rows from lo on, as many as `out` has, by distance. From the last to the first, each is put into the order of those behind it.

@@ -37,6 +37,7 @@ fn keep<R: io::Read>(input: &mut R, kept: &mut [u8]) -> Result<usize, Unreadable
     ensures known { FilledOf (R.remaining input.old) (R.remaining input.new) kept.new result }
 {
     let mut n = 0;
+    // no range counts these: a read delivers as many bytes as it likes
     while n < kept.len() {
         match input.read(&mut kept[n..])? {
             0 => return Ok(n),

@@ -2,7 +2,7 @@
 // After segmentation.rs, "SBS" and "WBS"; neither layers nor draws means "BS".
 #![tactic(auto)]
 
-ghost use Rattle.std.specs.Prelude.{◌≡◌, false, map, ◌+◌, ◌*◌, ◌<◌, ◌≤◌, length};
+ghost use Rattle.std.specs.Prelude.{◌≡◌, false, map, ◌+◌, ◌≤◌, length};
 ghost use Rattle.scope.specs.Refusals.{wrong_layers};
 ghost use Rattle.scope.specs.Origin.{layer as of_layer, draw as of_draw};
 ghost use Rattle.scope.specs.Layers.{of_origin, one, labelled, seeded, layer_segments, layers_total};
@@ -13,7 +13,7 @@ ghost use Rattle.control.specs.Settings.{matrix_of, shortest_of, source_of};
 ghost use Rattle.optimizer.specs.Records.{to_origin};
 ghost use Rattle.stored.specs.Flat.{Put};
 ghost use Rattle.rows.specs.Segments.{to_segment};
-ghost use Rattle.segmentation.specs.Segments.{search_over, stored_over, draw_record, Within, stored_asked, StoresSegments};
+ghost use Rattle.segmentation.specs.Segments.{Sized, RoomFor, search_over, stored_over, draw_record, Within, stored_asked, StoresSegments};
 
 use change_in_mean::ChangeInMean;
 use control::{Allowed, Matrix, Refusal, Source};
@@ -21,6 +21,8 @@ use layers::Layer;
 use optimizer::optimizer_result::Origin;
 use rows::Segment;
 use stored::records;
+
+// `rows`, `gains` and a place go together below, and stay apart: of a struct of two lent slices each contract would say besides that they are the same loans.
 
 // Searches a segment and stores its record, with its origin, at the place `at`; a segment that the search refuses leaves none. Tells the next place.
 fn store_segment(
@@ -32,9 +34,8 @@ fn store_segment(
     gains: &mut [f64],
     at: usize,
 ) -> usize
-    requires start_le_stop { (segment.start.0 ≤ segment.stop.0) × (segment.stop.0 ≤ 4096) × (allowed.shortest.m ≤ 4096) }
-    requires d_in_bounds { (segment.stop.0 + 1) * gain.d ≤ length gain.sums.now }
-    requires at_in_bounds { (5 * at + 5 ≤ length rows.old) × (at < length gains.old) }
+    requires start_le_stop { (segment.start.0 ≤ segment.stop.0) × Sized gain allowed segment.stop.0 }
+    requires at_in_bounds { RoomFor (at + 1) rows.old gains.old }
     ensures { Put (one (labelled (to_origin origin) (search_over gain.entry allowed.entry segment.start.0 segment.stop.0))) at rows.old gains.old rows.new gains.new result }
 {
     let Ok(found) = grid_search::search_segment(gain, allowed, segment) else {
@@ -54,8 +55,8 @@ fn store_layer(
     gains: &mut [f64],
     at: usize,
 ) -> usize
-    requires m_bound { (allowed.shortest.m ≤ 4096) × ((layer.n + 1) * gain.d ≤ length gain.sums.now) }
-    requires count_in_bounds { (5 * (at + layer.count) ≤ length rows.old) × (at + layer.count ≤ length gains.old) }
+    requires n_bound { Sized gain allowed layer.n }
+    requires count_in_bounds { RoomFor (at + layer.count) rows.old gains.old }
     ensures { Put (stored_over gain.entry allowed.entry (map (of_origin (of_layer number)) (layer_segments layer.n layer.value layer.count))) at rows.old gains.old rows.new gains.new result }
 {
     let mut next = at;
@@ -82,9 +83,9 @@ fn store_layers(
     rows: &mut [usize],
     gains: &mut [f64],
 ) -> usize
-    requires n_bound { (n ≤ 4096) × (allowed.shortest.m ≤ 4096) × ((n + 1) * gain.d ≤ length gain.sums.now) }
+    requires n_bound { Sized gain allowed n }
     requires layers_value { wrong_layers layers.now ≡ false }
-    requires layers_in_bounds { (5 * layers_total layers.now ≤ length rows.old) × (layers_total layers.now ≤ length gains.old) }
+    requires layers_in_bounds { RoomFor (layers_total layers.now) rows.old gains.old }
     ensures { Put (stored_over gain.entry allowed.entry (seeded n layers.now)) 0 rows.old gains.old rows.new gains.new result }
 {
     let mut count = 0;
@@ -105,8 +106,8 @@ fn store_draw(
     gains: &mut [f64],
     at: usize,
 ) -> usize
-    requires stop_bound { (draw.stop.0 ≤ 4096) × (allowed.shortest.m ≤ 4096) × ((draw.stop.0 + 1) * gain.d ≤ length gain.sums.now) }
-    requires at_in_bounds { (5 * at + 5 ≤ length rows.old) × (at < length gains.old) }
+    requires stop_bound { Sized gain allowed draw.stop.0 }
+    requires at_in_bounds { RoomFor (at + 1) rows.old gains.old }
     ensures { Put (one (labelled (of_draw number) (draw_record (search_over gain.entry allowed.entry) (to_segment draw)))) at rows.old gains.old rows.new gains.new result }
 {
     if !draws::is_searched(draw) {
@@ -126,7 +127,7 @@ fn store_draws(
     gains: &mut [f64],
 ) -> usize
     requires m_bound { (allowed.shortest.m ≤ 4096) × Within draws.now gain.d (length gain.sums.now) }
-    requires w_in_bounds { (5 * w ≤ length rows.old) × (w ≤ length gains.old) }
+    requires w_in_bounds { RoomFor w rows.old gains.old }
     ensures { Put (stored_over gain.entry allowed.entry (drawn (search_over gain.entry allowed.entry) draws.now w)) 0 rows.old gains.old rows.new gains.new result }
 {
     let mut count = 0;
@@ -149,9 +150,9 @@ pub fn store_records(
     rows: &mut [usize],
     gains: &mut [f64],
 ) -> usize
-    requires n_bound { (n ≤ 4096) × (allowed.shortest.m ≤ 4096) × ((n + 1) * gain.d ≤ length gain.sums.now) }
+    requires n_bound { Sized gain allowed n }
     requires layers_value { (wrong_layers source.layers.now ≡ false) × Within source.draws.now gain.d (length gain.sums.now) }
-    requires w_in_bounds { (5 * most_stored (source_of source) ≤ length rows.old) × (most_stored (source_of source) ≤ length gains.old) }
+    requires w_in_bounds { RoomFor (most_stored (source_of source)) rows.old gains.old }
     ensures { Put (stored_over gain.entry allowed.entry (stored_segments (search_over gain.entry allowed.entry) n (source_of source.entry))) 0 rows.old gains.old rows.new gains.new result }
 {
     if source.draws.is_empty() {

@@ -3,8 +3,8 @@ use Rattle.std.proofs.Common.{◌≡◌, ◌∙◌, true, rules}
 use Rattle.line.proofs.Minus.{minus_cell}
 use Rattle.line.proofs.signed_end.Goals as goal
 
-pub returns-in-Some-2 : goal.returns-in-Some-2
-returns-in-Some-2 c =
+pub returns-then-v-gt0 : goal.returns-then-v-gt0
+returns-then-v-gt0 c =
     let minus : c.args.minus ≡ true = search rules in
-    rw (minus, ← c.value.ensures, c.in-Some.is)
-    (c.cell_at-in-Some-2.ensures ∙ rw c.nearest_usize_to_f64-in-Some-2.ensures (minus_cell _ _ _ c.if-v-gt0.true))
+    rw (minus, ← c.value.ensures, c.in_ok-v.was)
+    (c.cell_at-then-v-gt0.ensures ∙ rw c.nearest_usize_to_f64-then-v-gt0.ensures (minus_cell _ _ _ c.if-v-gt0.true))

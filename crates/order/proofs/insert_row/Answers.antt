@@ -2,7 +2,7 @@
 use mathlib.Core.Path.{◌≡◌, refl, sym, ap, ◌∙◌}
 use mathlib.Core.Bool.{true, false}
 use mathlib.Core.List.{List, [], ◌∷◌, ◌++◌, append_assoc}
-use Prim.Native.Nat.{ℕ, suc, ◌+◌, ◌-◌, ◌≤◌, ◌<◌}
+use Prim.Native.Nat.{ℕ, suc, ◌+◌, ◌≤◌, ◌<◌}
 use native.Mathlib.Numerals.{add-one}
 use native.Mathlib.Omega.{arith}
 use lib.Ieee.{Float}
@@ -12,6 +12,7 @@ use Rattle.scope.specs.Neighbours.{is_nearer, insert}
 use Rattle.order.specs.Rows.{Below}
 use Rattle.order.proofs.Ordered.{later, here}
 use Rattle.order.proofs.insert_row.Goals as goal
+use Rattle.order.proofs.insert_row.Goals.{else-loop-next-test, then-loop-next-test+then-not-is_nearer}
 use Rattle.order.proofs.insert_row.Invariants.{State}
 
 module _ {ds : List Float} {row : ℕ} {out₀ out : List ℕ} {hole : ℕ} (s : State ds row out₀ out hole) where
@@ -44,19 +45,24 @@ module _ {ds : List Float} {row : ℕ} {out₀ out : List ℕ} {hole : ℕ} (s :
   placed-before : hole + 1 < length out → is_nearer ds (get_or out (hole + 1) 0) row ≡ false → set out hole row ≡ insert ds row (drop 1 out₀)
   placed-before h e = placed (rw (next h) (here ds row (get_or out (hole + 1) 0) (drop (hole + 1 + 1) out) e))
 
-pub loop-hole-init : goal.loop-hole-init
-loop-hole-init c = let p = c.requires in record { within = p.2; long = refl; rows = p.4; held = refl }
+pub loop-next-init : goal.loop-next-init
+loop-next-init c = let p = c.requires in (refl, record { within = p.2; long = refl; rows = p.4; held = refl })
 
 pub is_nearer-requires : goal.is_nearer-requires
-is_nearer-requires c = (c.requires.0, rows-from c.loop-hole.invariant (omega arith) 0 (omega arith), c.requires.1)
+is_nearer-requires c =
+    let s = c.loop-next.invariant in
+    (c.requires.0, rw s.0 (rows-from s.1 (omega arith) 0 (omega arith)), c.requires.1)
 
-pub loop-hole-preserved : goal.loop-hole-preserved
-loop-hole-preserved c = moved c.loop-hole.invariant (omega arith) (sym c.is_nearer.ensures ∙ c.if-not-is_nearer.false)
-
-pub returns-then-not-is_nearer : goal.returns-then-not-is_nearer
-returns-then-not-is_nearer c = placed-before c.loop-hole.invariant (omega arith) (sym c.is_nearer.ensures ∙ c.if-not-is_nearer.true)
+pub loop-next-preserved : goal.loop-next-preserved
+loop-next-preserved c =
+    let s = c.loop-next.invariant in
+    let near = rw s.0 at (sym c.is_nearer.ensures ∙ c.if-not-is_nearer.false) in
+    (refl, rw s.0 (moved s.1 (omega arith) near))
 
 pub returns : goal.returns
 returns c =
-    let end : length c.args.out.now - 1 ≡ c.loop-hole.hole = omega arith in
-    rw end (placed-last c.loop-hole.invariant (omega arith))
+    let s = c.loop-next.invariant in
+    elim c.loop-next-test.branch [
+      | else-loop-next-test w ↦ placed-last s.1 (omega arith)
+      | then-loop-next-test+then-not-is_nearer w ↦ placed-before s.1 (omega arith) (rw s.0 at (sym w.is_nearer.ensures ∙ w.if-not-is_nearer.true))
+    ]

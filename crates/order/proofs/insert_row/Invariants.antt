@@ -15,5 +15,5 @@ pub record State (ds : List Float) (row : ℕ) (out₀ out : List ℕ) (hole : �
   pub rows : Below (length ds) (drop (hole + 1) out)
   pub held : take hole out ++ insert ds row (drop (hole + 1) out) ≡ insert ds row (drop 1 out₀)
 
-abbrev pub invariant-loop-hole : goal.invariant-loop-hole
-invariant-loop-hole l = State l.ds l.row l.initial.out l.out l.hole
+abbrev pub invariant-loop-next : goal.invariant-loop-next
+invariant-loop-next l = (l.next ≡ l.hole + 1) × State l.ds l.row l.initial.out l.out l.hole
