@@ -1,6 +1,6 @@
 -- What the tree of a deck leaves in lent memory, and the text that is written from it. Assumes nothing.
 use mathlib.Core.Path.{◌≡◌, refl, ap}
-use mathlib.Core.List.{List, [], ◌∷◌}
+use mathlib.Core.List.{List, []}
 use Prim.Native.Nat.{ℕ, zero, suc, ◌+◌, ◌≤◌}
 use native.Mathlib.Omega.{arith}
 use lib.Ieee.{Float}
@@ -9,7 +9,7 @@ use lib.Seq.{take_at}
 use Rattle.std.specs.Prelude.{Result, Ok}
 use Rattle.scope.specs.Asked.{off}
 use Rattle.scope.specs.Lists.{holding}
-use Rattle.scope.specs.Refusals.{Answer, refused, given, unless}
+use Rattle.scope.specs.Refusals.{Answer, given, unless}
 use Rattle.scope.specs.Grid.{Record}
 use Rattle.scope.specs.Layers.{seeded_from, layers_total, stored}
 use Rattle.scope.specs.Tree.{Run, Tree, stored_records, tree_of, records_of, node_count, cuts, sheet, most_nodes}
@@ -22,7 +22,7 @@ use Rattle.stored.proofs.Flat.{records_told}
 use Rattle.demand.proofs.Demand.{demand, records_fit}
 use Rattle.line.specs.declared.Given.{Given}
 use Rattle.limits.specs.Limits.{given_refusal}
-use Rattle.limits.specs.Held.{matrix_held, settings_held, run_held, or_else}
+use Rattle.limits.specs.Held.{matrix_held, settings_held, run_held}
 use Rattle.limits.proofs.Clean.{GivenClean, given_clean}
 use Rattle.sheet_text.specs.Lines.{sheet_of}
 use Rattle.sheet_text.proofs.Lookup.{lines_are}

@@ -121,7 +121,12 @@ fn grow(
     requires { given_refusal deck forbidden.now ≡ 0 }
     ensures { Grew deck cells.now forbidden.now rows.old gains.old cuts.old rows.new gains.new cuts.new result }
 {
-    let matrix = limits::matrix(deck, cells);
-    let settings = limits::settings(deck, forbidden);
-    entry_tree::split_points(matrix, settings, sums, rows, gains, cuts)
+    entry_tree::split_points(
+        limits::matrix(deck, cells),
+        limits::settings(deck, forbidden),
+        sums,
+        rows,
+        gains,
+        cuts,
+    )
 }

@@ -98,8 +98,14 @@ fn explain(
     requires { given_refusal deck forbidden.now ≡ 0 }
     ensures { Tells row.0 deck cells.now forbidden.now result }
 {
-    let matrix = limits::matrix(deck, cells);
-    let settings = limits::settings(deck, forbidden);
     let mut text = [0u8; entry_why::TEXT];
-    entry_why::why(matrix, settings, row, sums, &mut [], &mut [], &mut text)
+    entry_why::why(
+        limits::matrix(deck, cells),
+        limits::settings(deck, forbidden),
+        row,
+        sums,
+        &mut [],
+        &mut [],
+        &mut text,
+    )
 }
