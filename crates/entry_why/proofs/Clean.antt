@@ -3,14 +3,21 @@ use mathlib.Core.Path.{◌≡◌}
 use Prim.Native.Nat.{◌≤◌, ◌<◌}
 use borrow.Author.Tests.{ltb-false, leb-false}
 use lib.ListN.{length, drop}
-use Rattle.scope.specs.Refusals.{most_layers, wrong_layers}
+use Rattle.scope.specs.Refusals.{most_layers, first_of, wrong_layers}
 use Rattle.scope.specs.Origin.{origin_room}
 use Rattle.scope.specs.Draws.{most_stored}
 use Rattle.scope.specs.Calls.{run_tests}
 use Rattle.scope.specs.Why.{WhyAsked, why_tests, why_refusal}
 use Rattle.scope.proofs.Candidates.{or_false}
+use Rattle.control.specs.declared.refusal.Refusal.{Refusal}
+use Rattle.control.specs.Refused.{number_of}
 use Rattle.control.proofs.Clean.{passed, both_pass}
-use Rattle.prepared.proofs.Clean.{run_clean, RunFits, run_fits}
+use Rattle.prepared.proofs.Clean.{by_first, run_clean, RunFits, run_fits}
+
+-- a run's refusal is the call's
+pub why_by_run : (a : WhyAsked) (r : Refusal) → number_of r ≡ first_of (run_tests a.matrix a.settings) → number_of r ≡ why_refusal a
+unfolding why_refusal
+why_by_run a r is = by_first (run_tests a.matrix a.settings) (drop 9 (why_tests a)) r is
 
 pub record WhyClean (a : WhyAsked) : Type 0 where
   pub run : RunFits a.matrix a.settings a.sums a.records

@@ -1,3 +1,3 @@
--- The laws that belong to no one function.
+-- What holds where nothing is refused, and what is then told.
 pub mod Clean
 pub mod Told

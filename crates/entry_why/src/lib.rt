@@ -19,7 +19,7 @@ use stored::records::Records;
 use verdict::Asked;
 
 // What is told of the row, and how many bytes of text go with it.
-#[derive(Clone, Copy, Debug, PartialEq)]
+#[derive(Clone, Copy, Debug)]
 pub struct Explained {
     pub why: Why,
     pub written: usize,
@@ -29,6 +29,7 @@ pub struct Explained {
 pub const TEXT: usize = 25;
 
 // What a call for why is refused for: no tree is kept, so there is room for the sums, the stored segments' records and the text alone.
+#[tactic(auto, unfolding(scope::specs::Why::why_refusal))]
 fn why_refusal(
     matrix: Matrix,
     settings: Settings,

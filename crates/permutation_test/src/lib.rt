@@ -21,23 +21,25 @@ fn has_reached<const K: usize>(sums: [f64; K], maximum: f64) -> bool
     sums.iter().any(|sum| *sum >= maximum)
 }
 
-// The curves, all of length l, and the observed maximum, which a sum must reach.
+// What a test is over: K curves, all of length l, the shortest part, and the observed maximum, which a sum must reach.
 #[derive(Clone, Copy)]
-struct Observed<'a> {
+struct Observed<'a, const K: usize> {
     curves: &'a [Curve<'a>],
     l: usize,
+    shortest: Shortest,
     maximum: f64,
-    ghost is_long: { (l ≤ 4096) × (list_all (λ c. nat_eq (length c.deltas.now) l) curves.now ≡ true) },
+    ghost are_long: { (length curves.now ≡ K) × (1 ≤ shortest.m) × (2 * shortest.m ≤ l) × (l ≤ 4096) × (list_all (λ c. nat_eq (length c.deltas.now) l) curves.now ≡ true) },
 }
 
-// Sums are K, one for each curve: the compiler knows K, and so needs no loop over them.
-impl Observed<'_> {
+// There is a sum for each curve.
+impl<const K: usize> Observed<'_, K> {
     // Each curve's delta of the index i, added to that curve's sum.
-    fn add_deltas<const K: usize>(self, sums: [f64; K], i: usize) -> [f64; K]
-        requires { (i < self.l) × (length self.curves.now ≡ K) }
+    fn add_deltas(self, sums: [f64; K], i: usize) -> [f64; K]
+        requires { i < self.l }
         ensures { result ≡ add_deltas (deltas_of self.entry.curves.now) i sums.entry }
     {
         let mut next = sums;
+        // By number, since sums, curves and what comes next are walked at once: `zip` of them would be no plainer.
         for c in 0..K {
             next[c] = sums[c] + self.curves[c].deltas[i];
         }
@@ -45,8 +47,8 @@ impl Observed<'_> {
     }
 
     // The sums after some indices.
-    fn sums_after<const K: usize>(self, indices: &[usize], sums: [f64; K]) -> [f64; K]
-        requires { (length self.curves.now ≡ K) × (every (λ v. nat_lt v self.l) indices.now ≡ true) }
+    fn sums_after(self, indices: &[usize], sums: [f64; K]) -> [f64; K]
+        requires { every (λ v. nat_lt v self.l) indices.now ≡ true }
         ensures { result ≡ added (deltas_of self.entry.curves.now) indices.now sums.entry }
     {
         let mut after = sums;
@@ -57,8 +59,8 @@ impl Observed<'_> {
     }
 
     // Whether a sum reaches the maximum after one of the indices.
-    fn reaches_maximum<const K: usize>(self, indices: &[usize], sums: [f64; K]) -> bool
-        requires { (length self.curves.now ≡ K) × (every (λ v. nat_lt v self.l) indices.now ≡ true) }
+    fn reaches_maximum(self, indices: &[usize], sums: [f64; K]) -> bool
+        requires { every (λ v. nat_lt v self.l) indices.now ≡ true }
         ensures { result ≡ reaches (deltas_of self.entry.curves.now) self.entry.maximum indices.now sums.entry }
     {
         let mut after = sums;
@@ -73,40 +75,15 @@ impl Observed<'_> {
 
     // One permutation: from the bases add the first m - 1 permuted deltas; a sum must reach the maximum with one of those that are tested.
     // These are l - 2m + 1. The closed end changes nothing here: it admits l = 2m, which tests once.
-    fn exceeds_maximum<const K: usize>(
-        self,
-        permutation: &[usize],
-        bases: [f64; K],
-        shortest: Shortest,
-    ) -> bool
-        requires le_m { (1 ≤ shortest.m) × (2 * shortest.m ≤ self.l) × (length permutation.now ≡ self.l) }
-        requires curves { (length self.curves.now ≡ K) × (every (λ v. nat_lt v self.l) permutation.now ≡ true) }
-        ensures { result ≡ exceeds (shortest_of shortest) self.entry.l bases.entry (deltas_of self.entry.curves.now) self.entry.maximum permutation.now }
+    fn exceeds_maximum(self, permutation: &[usize], bases: [f64; K]) -> bool
+        requires length { length permutation.now ≡ self.l }
+        requires inside { every (λ v. nat_lt v self.l) permutation.now ≡ true }
+        ensures { result ≡ exceeds (shortest_of self.entry.shortest) self.entry.l bases.entry (deltas_of self.entry.curves.now) self.entry.maximum permutation.now }
     {
-        let first = shortest.m - 1;
-        let tested = self.l - 2 * shortest.m + 1;
+        let first = self.shortest.m - 1;
+        let tested = self.l - 2 * self.shortest.m + 1;
         let sums = self.sums_after(&permutation[..first], bases);
         self.reaches_maximum(&permutation[first..first + tested], sums)
-    }
-
-    // One more than how many of the permutations have a sum that reaches the maximum.
-    fn count<const K: usize>(
-        self,
-        permutations: Permutations,
-        bases: [f64; K],
-        shortest: Shortest,
-    ) -> usize
-        requires le_m { (1 ≤ shortest.m) × (2 * shortest.m ≤ self.l) × (length self.curves.now ≡ K) }
-        requires are_true { wrong_permutations permutations.p self.l permutations.indices.now ≡ false }
-        ensures { result ≡ counter (shortest_of shortest) self.entry.l bases.entry (deltas_of self.entry.curves.now) self.entry.maximum permutations.entry.indices.now permutations.entry.p }
-    {
-        let mut counted = 1;
-        for q in 0..permutations.p {
-            if self.exceeds_maximum(permutations.at(q, self.l), bases, shortest) {
-                counted += 1;
-            }
-        }
-        counted
     }
 }
 
@@ -123,21 +100,55 @@ pub fn permutation_count(
     requires are_true { wrong_permutations permutations.p l permutations.indices.now ≡ false }
     ensures { result ≡ counter (shortest_of shortest) l (take curves.entry.k (bases_of curves.entry.lent)) (take curves.entry.k (deltas_of curves.entry.lent)) maximum permutations.entry.indices.now permutations.entry.p }
 {
-    let observed = Observed {
-        curves: curves.counted(),
-        l,
-        maximum,
-    };
     let [first, second, third] = curves.lent;
     match curves.k {
-        1 => observed.count(permutations, [first.base], shortest),
-        2 => observed.count(permutations, [first.base, second.base], shortest),
-        _ => observed.count(
+        1 => count_from([first.base], curves, permutations, shortest, maximum, l),
+        2 => count_from(
+            [first.base, second.base],
+            curves,
             permutations,
-            [first.base, second.base, third.base],
             shortest,
+            maximum,
+            l,
+        ),
+        _ => count_from(
+            [first.base, second.base, third.base],
+            curves,
+            permutations,
+            shortest,
+            maximum,
+            l,
         ),
     }
+}
+
+// The same from K bases, where so many curves are looked at.
+fn count_from<const K: usize>(
+    bases: [f64; K],
+    curves: Curves,
+    permutations: Permutations,
+    shortest: Shortest,
+    maximum: f64,
+    l: usize,
+) -> usize
+    requires le_m { (length (take curves.k curves.lent) ≡ K) × (1 ≤ shortest.m) × (2 * shortest.m ≤ l) }
+    requires are_long { wrong_lengths l (take curves.k (deltas_of curves.lent)) ≡ false }
+    requires are_true { wrong_permutations permutations.p l permutations.indices.now ≡ false }
+    ensures { result ≡ counter (shortest_of shortest) l bases.entry (take curves.entry.k (deltas_of curves.entry.lent)) maximum permutations.entry.indices.now permutations.entry.p }
+{
+    let observed: Observed<K> = Observed {
+        curves: curves.counted(),
+        l,
+        shortest,
+        maximum,
+    };
+    let mut counted = 1;
+    for q in 0..permutations.p {
+        if observed.exceeds_maximum(permutations.at(q, l), bases) {
+            counted += 1;
+        }
+    }
+    counted
 }
 
 // p = counter/(P+1).

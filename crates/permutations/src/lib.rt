@@ -23,15 +23,6 @@ impl<'a> Permutations<'a> {
     }
 }
 
-// The values from low to high - 1, of those below l: a pass serves them.
-#[derive(Clone, Copy)]
-struct Served {
-    l: usize,
-    low: usize,
-    high: usize,
-    ghost in_order: { (low ≤ high) × (high ≤ l) },
-}
-
 // How many bytes of marks a pass has at most.
 const BYTES: usize = 65536;
 
@@ -54,84 +45,99 @@ fn mark(n: usize, marks: &mut [u8]) -> bool
     false
 }
 
-// Whether v shows that a proposed permutation of 0..l-1 is wrong: it is out of range, or a value that is served and marked already.
-// The difference wraps, so that one comparison tells whether v is served.
-fn shows_wrong(v: usize, served: Served, marks: &mut [u8]) -> bool
-    requires { Serves served.l served.low served.high marks.old }
-    ensures found { result ≡ shows_wrong served.l served.low served.high v marks.old }
-    ensures marks { result ≡ false → marks.new ≡ with_value served.low served.high v marks.old }
-{
-    let n = v.wrapping_sub(served.low);
-    if n < served.high - served.low {
-        return mark(n, marks);
-    }
-    served.l <= v
+// What a pass judges: permutations of l indices each. Of the values below l it serves those from low to high - 1.
+#[derive(Clone, Copy)]
+struct Pass<'a> {
+    permutations: Permutations<'a>,
+    l: usize,
+    low: usize,
+    high: usize,
+    ghost in_order: { (length permutations.indices.now ≡ permutations.p * l) × (low ≤ high) × (high ≤ l) },
 }
 
-// Whether a proposed permutation of 0..l-1 is wrong, as far as one pass shows: an entry is out of range, or a value that is served stands twice.
-fn holds_wrong(permutation: &[usize], served: Served, marks: &mut [u8]) -> bool
-    requires { Serves served.l served.low served.high marks.old }
-    ensures { Passed served.l served.low served.high permutation.now result }
-{
-    marks.fill(0);
-    for &v in permutation {
-        if shows_wrong(v, served, marks) {
-            return true;
+impl Pass<'_> {
+    // Whether v shows that a proposed permutation is wrong: it is out of range, or a value that is served and marked already.
+    // The difference wraps, so that one comparison tells whether v is served.
+    fn shows_wrong(self, v: usize, marks: &mut [u8]) -> bool
+        requires { Serves self.l self.low self.high marks.old }
+        ensures found { result ≡ shows_wrong self.entry.l self.entry.low self.entry.high v marks.old }
+        ensures marks { result ≡ false → marks.new ≡ with_value self.entry.low self.entry.high v marks.old }
+    {
+        let n = v.wrapping_sub(self.low);
+        if n < self.high - self.low {
+            return mark(n, marks);
         }
+        self.l <= v
     }
-    false
-}
 
-// One pass over the permutations.
-// They are taken by number: `chunks_exact` admits no length of 0.
-fn pass(permutations: Permutations, served: Served, marks: &mut [u8]) -> bool
-    requires { (length permutations.indices.now ≡ permutations.p * served.l) × Serves served.l served.low served.high marks.old }
-    ensures { PassedAll permutations.entry.p served.l served.low served.high permutations.entry.indices.now result }
-{
-    for q in 0..permutations.p {
-        if holds_wrong(permutations.at(q, served.l), served, marks) {
-            return true;
+    // Whether a proposed permutation is wrong, as far as one pass shows: an entry is out of range, or a value that is served stands twice.
+    fn holds_wrong(self, permutation: &[usize], marks: &mut [u8]) -> bool
+        requires { Serves self.l self.low self.high marks.old }
+        ensures { Passed self.entry.l self.entry.low self.entry.high permutation.now result }
+    {
+        marks.fill(0);
+        for &v in permutation {
+            if self.shows_wrong(v, marks) {
+                return true;
+            }
         }
+        false
     }
-    false
-}
 
-// One pass, with marks of its own: 64 KiB of the stack.
-fn any_wrong_within(permutations: Permutations, served: Served) -> bool
-    requires { (length permutations.indices.now ≡ permutations.p * served.l) × (served.high - served.low ≤ 524288) }
-    ensures { PassedAll permutations.entry.p served.l served.low served.high permutations.entry.indices.now result }
-{
-    let mut marks = [0u8; BYTES];
-    pass(permutations, served, &mut marks)
-}
-
-// As many passes as the values take: half of them, then the rest.
-// A loop would do; a function that calls itself keeps those 64 KiB out of its callers' stack, where the compiler would else put them for every length.
-fn any_wrong_between(permutations: Permutations, served: Served) -> bool
-    requires { length permutations.indices.now ≡ permutations.p * served.l }
-    ensures { PassedAll permutations.entry.p served.l served.low served.high permutations.entry.indices.now result }
-{
-    if served.high - served.low <= SERVED {
-        return any_wrong_within(permutations, served);
+    // Whether one of the permutations is wrong, as far as this pass shows.
+    // They are taken by number: `chunks_exact` admits no length of 0.
+    fn any_wrong_with(self, marks: &mut [u8]) -> bool
+        requires { Serves self.l self.low self.high marks.old }
+        ensures { PassedAll self.entry.permutations.p self.entry.l self.entry.low self.entry.high self.entry.permutations.indices.now result }
+    {
+        for q in 0..self.permutations.p {
+            if self.holds_wrong(self.permutations.at(q, self.l), marks) {
+                return true;
+            }
+        }
+        false
     }
-    let Served { l, low, high } = served;
-    let passes = (high - low) / SERVED + 1;
-    let middle = low + passes / 2 * SERVED;
-    any_wrong_between(
-        permutations,
-        Served {
+
+    // The same, with marks of its own: 64 KiB of the stack.
+    fn any_wrong_within(self) -> bool
+        requires { self.high - self.low ≤ 524288 }
+        ensures { PassedAll self.entry.permutations.p self.entry.l self.entry.low self.entry.high self.entry.permutations.indices.now result }
+    {
+        let mut marks = [0u8; BYTES];
+        self.any_wrong_with(&mut marks)
+    }
+
+    // The same, in as many passes as the values take: half of them, then the rest.
+    // A loop would do; a function that calls itself keeps those 64 KiB out of its callers' stack, where the compiler would else put them for every length.
+    fn any_wrong_between(self) -> bool
+        ensures { PassedAll self.entry.permutations.p self.entry.l self.entry.low self.entry.high self.entry.permutations.indices.now result }
+    {
+        if self.high - self.low <= SERVED {
+            return self.any_wrong_within();
+        }
+        let Pass {
+            permutations,
+            l,
+            low,
+            high,
+        } = self;
+        let passes = (high - low) / SERVED + 1;
+        let middle = low + passes / 2 * SERVED;
+        // Field by field: a struct that carries a fact takes no `..`.
+        let first = Pass {
+            permutations,
             l,
             low,
             high: middle,
-        },
-    ) || any_wrong_between(
-        permutations,
-        Served {
+        };
+        let rest = Pass {
+            permutations,
             l,
             low: middle,
             high,
-        },
-    )
+        };
+        first.any_wrong_between() || rest.any_wrong_between()
+    }
 }
 
 // The greatest admitted length.
@@ -146,16 +152,21 @@ fn any_wrong(permutations: Permutations, l: usize) -> bool
     requires { length permutations.indices.now ≡ permutations.p * l }
     ensures { result ≡ not (all_true permutations.entry.p l permutations.entry.indices.now) }
 {
-    let served = Served { l, low: 0, high: l };
+    let whole = Pass {
+        permutations,
+        l,
+        low: 0,
+        high: l,
+    };
     if l <= FEW {
         let mut marks = [0u8; FEW];
-        return pass(permutations, served, &mut marks);
+        return whole.any_wrong_with(&mut marks);
     }
     if l <= ADMITTED {
         let mut marks = [0u8; ADMITTED];
-        return pass(permutations, served, &mut marks[..l]);
+        return whole.any_wrong_with(&mut marks[..l]);
     }
-    any_wrong_between(permutations, served)
+    whole.any_wrong_between()
 }
 
 const MOST_PERMUTATIONS: usize = 999;

@@ -61,11 +61,11 @@ fed_small st s e = small st.n st.d s (fed_run_clean st s (sym e))
 
 -- ---- "The lowest number that applies", of two lists of tests
 -- r is the refusal of the first list
-by_first : (xs ys : List Test) (r : Refusal) → number_of r ≡ first_of xs → number_of r ≡ first_of (xs ++ ys)
+pub by_first : (xs ys : List Test) (r : Refusal) → number_of r ≡ first_of xs → number_of r ≡ first_of (xs ++ ys)
 by_first xs ys r is = is ∙ stops xs ys (λ z. numbered r (is ∙ z))
 
 -- nothing of the first list is refused, so k is the number where it is that of the second
-by_second : (xs ys : List Test) → T (Numbered xs) → 0 ≡ first_of xs → (k : ℕ) → k ≡ first_of ys → k ≡ first_of (xs ++ ys)
+pub by_second : (xs ys : List Test) → T (Numbered xs) → 0 ≡ first_of xs → (k : ℕ) → k ≡ first_of ys → k ≡ first_of (xs ++ ys)
 by_second xs ys h none k is = is ∙ sym (passes xs ys h (sym none))
 
 -- a run's refusal, and past it that of the room, is the call's

@@ -7,13 +7,13 @@ use Rattle.permutation_test.proofs.Observed.exceeds_maximum.Goals as goal
 
 pub sums_after-sums-requires : goal.sums_after-sums-requires
 sums_after-sums-requires g c =
-    let all = c.requires.curves.1 in
-    (omega (arith, g.K.fits), (c.requires.curves.0, rw every_take))
+    let all = c.requires.inside in
+    (omega (arith, g.K.fits), (omega (arith, g.K.fits), rw every_take))
 
 pub reaches_maximum-requires : goal.reaches_maximum-requires
 reaches_maximum-requires g c =
-    let rest = every_drop (λ v. ltb v c.args.self.l) (c.args.shortest.m - 1) c.args.permutation.now c.requires.curves.1 in
-    (omega (arith, g.K.fits), (c.requires.curves.0, rw every_take))
+    let rest = every_drop (λ v. ltb v c.args.self.l) (c.args.self.shortest.m - 1) c.args.permutation.now c.requires.inside in
+    (omega (arith, g.K.fits), (omega (arith, g.K.fits), rw every_take))
 
 pub returns : goal.returns
 unfolding exceeds

@@ -4,7 +4,7 @@ use Rattle.permutation_test.proofs.Summed.{index_inside, reaches_next, reaches_n
 use Rattle.permutation_test.proofs.Observed.reaches_maximum.Goals as goal
 
 pub add_deltas-after-requires : goal.add_deltas-after-requires
-add_deltas-after-requires g c = (omega (arith, g.K.fits), (index_inside c.args.indices.now c.loop-i.i-index c.args.self.l c.requires.1 (omega arith), c.requires.0))
+add_deltas-after-requires g c = (omega (arith, g.K.fits), (omega (arith, g.K.fits), index_inside c.args.indices.now c.loop-i.i-index c.args.self.l c.requires (omega arith)))
 
 pub returns-then-has_reached : goal.returns-then-has_reached
 returns-then-has_reached g c =

@@ -4,7 +4,7 @@ use Rattle.permutation_test.proofs.Summed.{index_inside, added_next, added_none}
 use Rattle.permutation_test.proofs.Observed.sums_after.Goals as goal
 
 pub add_deltas-after-requires : goal.add_deltas-after-requires
-add_deltas-after-requires g c = (omega (arith, g.K.fits), (index_inside c.args.indices.now c.loop-i.i-index c.args.self.l c.requires.1 (omega arith), c.requires.0))
+add_deltas-after-requires g c = (omega (arith, g.K.fits), (omega (arith, g.K.fits), index_inside c.args.indices.now c.loop-i.i-index c.args.self.l c.requires (omega arith)))
 
 pub loop-i-preserved : goal.loop-i-preserved
 loop-i-preserved g c = rw c.add_deltas-after.ensures (c.loop-i.invariant ∙ added_next c.args.indices.now c.loop-i.i-index _ _ (omega arith))

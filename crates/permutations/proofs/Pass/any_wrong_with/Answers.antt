@@ -1,8 +1,8 @@
--- `pass` meets its contract: in the permutations passed these values stand apart.
+-- `any_wrong_with` meets its contract: in the permutations passed these values stand apart.
 use Rattle.std.proofs.Common.{◌≡◌, arith, below_none, below_more}
 use mathlib.Core.Bool.{false≢true}
 use Rattle.permutations.proofs.Passes.{one_refuted, one_wrong}
-use Rattle.permutations.proofs.pass.Goals as goal
+use Rattle.permutations.proofs.Pass.any_wrong_with.Goals as goal
 
 pub loop-q-init : goal.loop-q-init
 loop-q-init c = below_none _
@@ -17,5 +17,5 @@ loop-q-preserved c = below_more _ _ c.loop-q.invariant (rw c.at.ensures at (c.ho
 
 pub returns : goal.returns
 returns c =
-    let all : c.loop-q.q ≡ c.args.permutations.p = omega arith in
+    let all : c.loop-q.q ≡ c.args.self.permutations.p = omega arith in
     record { refuted = λ f. absurd (false≢true f); apart = λ t. rw all at c.loop-q.invariant }
