@@ -1,5 +1,5 @@
 -- A matrix's rows, their distances, and their orders in one table. Assumes nothing.
-use mathlib.Core.Path.{◌≡◌, refl, sym, ◌∙◌}
+use mathlib.Core.Path.{◌≡◌, sym, ◌∙◌}
 use mathlib.Core.Bool.{true}
 use mathlib.Core.List.{List, ◌++◌, append_assoc}
 use Prim.Native.Nat.{ℕ, zero, suc, ◌+◌, ◌*◌, ◌≤◌, ◌<◌}
@@ -21,10 +21,6 @@ use Rattle.distances.specs.Matrix.{Orderable, Filled}
 -- row i of n lies in the table
 pub row_in : (i n d l : ℕ) → i < n → l ≡ n * d → i * d + d ≤ l
 row_in i n d l h e = omega (arith, mul-le-mul_right d h, add-mul i 1 d)
-
--- a square table of at most 1024 rows
-pub square_small : (i n : ℕ) → i < n → n ≤ 1024 → i * n + n ≤ 1048576
-square_small i n h k = omega (arith, row_in i n n (n * n) h refl, mul-le-mul_right n k)
 
 pub distances_numeric : (cells : List Float) (n d : ℕ) → Orderable cells n d → (i : ℕ) → i < n → Numeric (distances cells d i n)
 distances_numeric cells n d m i h j = go (dec_lt j n)

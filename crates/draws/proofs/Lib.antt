@@ -1,3 +1,3 @@
--- What is stored by draws or by layers; whether a draw stops past the run.
+-- How small T is; whether a draw stops past the run.
 pub mod Given
 pub mod Past

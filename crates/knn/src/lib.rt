@@ -43,12 +43,13 @@ pub fn predict(
     requires { Filled matrix.cells.now matrix.n matrix.d ordering.now × (segment.start.0 < segment.stop.0) × (segment.stop.0 ≤ matrix.n) × (segment.stop.0 - segment.start.0 ≤ length predictions.old) }
     ensures { predictions.new ≡ holding (scope.predictions matrix.entry.cells.now matrix.entry.n matrix.entry.d segment.start.0 segment.stop.0 split.0 (segment.stop.0 - segment.start.0)) predictions.old }
 {
-    let k = whole_root(segment.length());
-    for i in 0..segment.length() {
+    let length = segment.length();
+    let k = whole_root(length);
+    for (i, prediction) in predictions[..length].iter_mut().enumerate() {
         let row = Offset(i).position_from(segment.start);
         let first = row.0 * matrix.n;
         let end = first + matrix.n;
         let count = count_past(&ordering[first..end], segment, row, split, k);
-        predictions[i] = (count as f64) / (k as f64);
+        *prediction = (count as f64) / (k as f64);
     }
 }

@@ -1,13 +1,14 @@
 -- `predict` meets its contract. After i turns the first i predictions stand. Assumes nothing.
 use mathlib.Core.Path.{◌≡◌, refl, sym, ap, ◌∙◌}
-use mathlib.Core.List.{List, ◌++◌}
+use mathlib.Core.List.{List, [], ◌++◌, append-nil}
 use Prim.Native.Nat.{ℕ, zero, suc, ◌+◌, ◌-◌, ◌*◌, ◌^◌, ◌≤◌, ◌<◌}
 use native.Mathlib.Numerals.{add-one}
 use native.Mathlib.Omega.{arith}
 use lib.Dec.{T, leb, le→leb}
 use lib.IntN.{pos}
 use lib.Ieee.{Float, binary64, in_float}
-use lib.ListN.{length, take, drop, set, length-set, length-append, length-take, take-append-drop}
+use lib.Seq.{drop-length, length-take-le}
+use lib.ListN.{length, take, drop, set, length-append, length-take, take-append-drop}
 use Rattle.scope.specs.Floats.{◌⊘◌, whole}
 use Rattle.scope.specs.Lists.{holding, select}
 use Rattle.scope.specs.Rounding.{whole_root}
@@ -43,50 +44,53 @@ module _ {cells : List Float} {n d : ℕ} {ordering : List ℕ} (filled : Filled
   unfolding count_of
   count-is start stop split i e f = rw (← e) (f ∙ rw row-order)
 
-begin : {cells : List Float} {n d start stop split k : ℕ} {out : List Float} → k ≡ whole_root (stop - start) → State cells n d start stop split k out out 0
+begin : {cells : List Float} {n d start stop split k : ℕ} {out : List Float} → k ≡ whole_root (stop - start) → length out ≡ stop - start → State cells n d start stop split k out out 0
 unfolding predictions
-begin {start = start} {stop = stop} f = record { root = f; few = omega (arith, (root_is (stop - start)).0, square_ge (whole_root (stop - start))); turns = omega arith; long = refl; held = refl }
+begin {start = start} {stop = stop} f e = record { root = f; few = omega (arith, (root_is (stop - start)).0, square_ge (whole_root (stop - start))); size = e; held = refl }
 
 module _ {cells : List Float} {n d start stop split k : ℕ} {out₀ out : List Float} {i : ℕ} (s : State cells n d start stop split k out₀ out i) where
-  next : i < stop - start → i < length out₀ → {count : ℕ} → count ≡ count_of cells n d start stop split (start + i) → State cells n d start stop split k out₀ (set out i (whole count ⊘ whole k)) (i + 1)
+  next : i < length out₀ → {count : ℕ} → count ≡ count_of cells n d start stop split (start + i) → State cells n d start stop split k out₀ (set out i (whole count ⊘ whole k)) (i + 1)
   unfolding predictions
-  next h l {count} e =
+  next l {count} e =
       record {
         root = s.root;
         few = s.few;
-        turns = omega arith;
-        long = length-set out i (whole count ⊘ whole k) ∙ s.long;
+        size = s.size;
         held = rw (s.held, e, s.root) (store_more (predictions cells n d start stop split i) out₀ i _ (length-predictions cells n d start stop split i) l ∙ rw (add-one i));
       }
 
-  finish : stop - start ≤ i → out ≡ holding (predictions cells n d start stop split (stop - start)) out₀
-  finish h = let e : i ≡ stop - start = omega (arith, s.turns) in s.held ∙ rw (e, length-predictions cells n d start stop split (stop - start))
+  finish : i ≡ length out₀ → (before : List Float) (L : ℕ) → L ≡ stop - start → out ++ drop L before ≡ holding (predictions cells n d start stop split (stop - start)) before
+  finish h before L e =
+      let all : i ≡ stop - start = h ∙ s.size in
+      let none : drop (stop - start) out₀ ≡ [] = rw (← s.size) (drop-length out₀) in
+      rw (s.held, all, none, append-nil, e, length-predictions cells n d start stop split (stop - start))
 
 small : (n : ℕ) → n ≤ 1024 → T (in_float binary64 (pos n))
 unfolding in_float
 small n h = le→leb n (2 ^ 53) (omega arith)
 
 pub loop-i-init : goal.loop-i-init
-loop-i-init c = begin (c.whole_root-k.ensures ∙ ap whole_root c.length.ensures)
+loop-i-init c =
+    begin (c.whole_root-k.ensures ∙ ap whole_root c.length-length.ensures) (length-take-le c.length-length.result c.args.predictions.now (omega (arith, c.requires.3)) ∙ c.length-length.ensures)
 
 pub slice_bounds-count_past-end : goal.slice_bounds-count_past-end
-slice_bounds-count_past-end c = let there : c.position_from-row.result.0 < c.args.matrix.n = omega (arith, c.requires) in fits c.requires.0 there
+slice_bounds-count_past-end c = let there : c.position_from-row.result.0 < c.args.matrix.n = omega (arith, c.requires, c.loop-i.invariant.size) in fits c.requires.0 there
 
-pub int_to_float-predictions : goal.int_to_float-predictions
-int_to_float-predictions c =
+pub int_to_float-prediction : goal.int_to_float-prediction
+int_to_float-prediction c =
     let s = c.args in
     let order = take (c.position_from-row.result.0 * s.matrix.n + s.matrix.n - c.position_from-row.result.0 * s.matrix.n) (drop (c.position_from-row.result.0 * s.matrix.n) s.ordering.now) in
     small c.count_past-count.result
-    (omega (arith, c.count_past-count.ensures, past_few s.segment.start.0 s.segment.stop.0 c.position_from-row.result.0 s.split.0 c.whole_root-k.result order c.loop-i.invariant.root, c.loop-i.invariant.few, c.requires, c.requires.0.rows))
+    (omega (arith, c.count_past-count.ensures, past_few s.segment.start.0 s.segment.stop.0 c.position_from-row.result.0 s.split.0 c.whole_root-k.result order c.loop-i.invariant.root, c.loop-i.invariant.few, c.requires.1, c.requires.2, c.requires.0.rows))
 
 pub loop-i-preserved : goal.loop-i-preserved
 loop-i-preserved c =
     let s = c.args in
-    let there : c.position_from-row.result.0 < s.matrix.n = omega (arith, c.requires) in
+    let there : c.position_from-row.result.0 < s.matrix.n = omega (arith, c.requires, c.loop-i.invariant.size) in
     let order = take (c.position_from-row.result.0 * s.matrix.n + s.matrix.n - c.position_from-row.result.0 * s.matrix.n) (drop (c.position_from-row.result.0 * s.matrix.n) s.ordering.now) in
     let past = past_are s.segment.start.0 s.segment.stop.0 c.position_from-row.result.0 s.split.0 c.whole_root-k.result order c.loop-i.invariant.root in
     let count = count-is c.requires.0 there s.segment.start.0 s.segment.stop.0 s.split.0 c.loop-i.i c.position_from-row.ensures (c.count_past-count.ensures ∙ sym past) in
-    next c.loop-i.invariant (omega arith) (omega (arith, c.requires.3)) count
+    next c.loop-i.invariant (omega arith) count
 
 pub returns : goal.returns
-returns c = finish c.loop-i.invariant (omega arith)
+returns c = finish c.loop-i.invariant (omega arith) c.args.predictions.now c.length-length.result c.length-length.ensures
