@@ -1,5 +1,4 @@
 -- `put_answer` meets its contract: the bad line's number, the refusal's, or what is told of the row.
-use Rattle.std.proofs.Common.{sym}
 use Rattle.control.specs.Refused.{number_of}
 use Rattle.control.proofs.Follows.{numbered}
 use Rattle.scope.specs.Text.{bytes}
