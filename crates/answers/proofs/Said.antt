@@ -11,7 +11,9 @@ use Rattle.scope.specs.Program.{deck_refusal, deck_text, sheet_text, or_refused,
 use Rattle.demand.specs.Printed.{Answers}
 use Rattle.report.specs.Written.{Written}
 use Rattle.report.proofs.Texts.{written_so}
-use Rattle.deck.specs.declared.Read.{Read}
+use Rattle.std.specs.Prelude.{Result}
+use Rattle.line.specs.declared.Given.{Given}
+use Rattle.deck.specs.declared.BadLine.{BadLine}
 use Rattle.deck.specs.Walk.{start, run, fed, read_of}
 use Rattle.deck.specs.Meaning.{read_text, Said}
 use Rattle.deck.proofs.Said.{Gives, said, lots_said}
@@ -33,7 +35,7 @@ gives cells₀ forbidden₀ room g cells forbidden r told =
     ∙ or_none (deck_refusal told.deck) _
 
 -- THE LAW: of what stands at the start of a slice
-pub written_said : (read : Read) (cells : List Float) (forbidden out out' : List ℕ) (r : ℕ) → Written out 0 (read_text given_text read cells forbidden) out' r → r ≤ length out
+pub written_said : (read : Result Given BadLine) (cells : List Float) (forbidden out out' : List ℕ) (r : ℕ) → Written out 0 (read_text given_text read cells forbidden) out' r → r ≤ length out
     → Written out 0 (read_text given_text read cells forbidden) out' r × (Said Answers read cells forbidden (take r out') × (r ≤ length out'))
 unfolding program
 written_said read cells forbidden out out' r w h = written_so (Said Answers read cells forbidden) (said given_text deck_text gives Answers answers read cells forbidden) w h

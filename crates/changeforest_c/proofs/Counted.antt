@@ -9,6 +9,7 @@ use lib.Dec.{T, ltb}
 use lib.Ieee.{Float}
 use lib.ListN.{length, take, drop}
 use lib.Seq.{length-take-le, take-length, drop-length}
+use Rattle.std.specs.Prelude.{Result, Ok, Err}
 use Rattle.scope.specs.Lists.{holding}
 use Rattle.scope.specs.Asked.{Matrix, Settings}
 use Rattle.scope.specs.Refusals.{Test, test, first_of, Answer, refused, given, unless, told_unless, no7}
@@ -16,15 +17,18 @@ use Rattle.scope.specs.Draws.{no8_draws}
 use Rattle.scope.specs.Tree.{Run, tree_of, records_of, Node, nodes, sheet, most_nodes}
 use Rattle.scope.specs.Calls.{sums_of, tree_tests, tree_refusal, tree_call, Counts, counts_of, run_of, run_follows, counted_refusal, counted_call, counts_told}
 use Rattle.scope.specs.Feed.{State, fed_last_tests, fed_tests, fed_refusal, fed_room, fed_run, fed_call, fed_counted_refusal, fed_counted_call}
+use Rattle.control.specs.declared.refusal.Refusal.{Refusal}
+use Rattle.control.specs.Refused.{told as answered}
+use Rattle.scope.proofs.Never.{never}
 use Rattle.control.proofs.Clean.{Numbered}
 use Rattle.segmentation.specs.Segments.{Held}
 use Rattle.node.specs.Nodes.{to_node}
 use Rattle.demand.specs.Demand.{Demand}
 use Rattle.prepared.specs.Answers.{tree_asked}
 use Rattle.entry_tree.specs.declared.Grown.{Grown}
-use Rattle.entry_tree.specs.Answers.{grown_of}
+use Rattle.entry_tree.specs.Answers.{to_counts}
 use Rattle.entry_tree.specs.Left.{Slices, record_slices, RunLeft, TreeLeft, fed_asked, FedLeft}
-use Rattle.told.specs.Told.{number_of, counted_room, four_in, grown_number, grown_counts, GrownTold}
+use Rattle.told.specs.Told.{counted_room, four_in, told_or, GrownTold}
 use Rattle.changeforest_c.specs.Stored.{RunStored, TreeStored, FedStored}
 
 -- ---- the number
@@ -84,15 +88,6 @@ four a b c d (x ∷ y ∷ []) h = absurd (omega arith)
 four a b c d (x ∷ y ∷ z ∷ []) h = absurd (omega arith)
 four a b c d (x ∷ y ∷ z ∷ v ∷ l) h = refl
 
--- ---- the enum's case is the definition's answer
-number_is : (a : Answer Counts) → grown_number (grown_of a) ≡ number_of a
-number_is (refused k) = refl
-number_is (given c) = refl
-
-counts_are : (a : Answer Counts) (before : List ℕ) → 4 ≤ length before → grown_counts (grown_of a) before ≡ holding (counts_told a) before
-counts_are (refused k) before h = refl
-counts_are (given c) before h = four c.nodes c.records c.cuts c.stored before h
-
 -- ---- what the entry point leaves, told: it was lent the first nodes, so many as the counts let
 abbrev pub front : Slices → ℕ → Slices
 front l k = record { sums = l.sums; rows = l.rows; gains = l.gains; nodes = take k l.nodes; cuts = l.cuts }
@@ -115,31 +110,43 @@ module _ (q : Run) (sums : List Float) (entry number : ℕ) (before : Slices) (c
       go true e = let (k, w) = short e in rw (is, e, w)
       go false e = rw (is, e, take-length, drop-length, append-nil)
 
-  module _ (g : Grown) (after : Slices) (counts₁ : List ℕ) (r : ℕ) (left : RunLeft (run_follows q sums entry) q g (front before room) after) (heard : GrownTold g r counts₀ counts₁) where
+  module _ (g : Result Grown Refusal) (after : Slices) (counts₁ : List ℕ) (r : ℕ) (left : RunLeft (run_follows q sums entry) q g (front before room) after)
+      (heard : GrownTold (answered to_counts g) r counts₀ counts₁) where
     abbrev answer : Answer Counts
     answer = unless number (counts_of q)
 
-    grew : g ≡ grown_of answer
-    grew = left.answer ∙ ap (λ (k : ℕ). grown_of (unless k (counts_of q))) same
+    grew : answered to_counts g ≡ answer
+    grew = left.answer ∙ ap (λ (k : ℕ). unless k (counts_of q)) same
+
+    counted : GrownTold answer r counts₀ counts₁
+    counted = rw grew at heard
 
     counts_told_lem : counts₁ ≡ holding (counts_told answer) counts₀
-    counts_told_lem = heard.counts ∙ ap (λ (y : Grown). grown_counts y counts₀) grew ∙ go (ltb (length counts₀) 4) refl
+    counts_told_lem = counted.counts ∙ go number refl
       where
-        go : (b : Bool) → ltb (length counts₀) 4 ≡ b → grown_counts (grown_of answer) counts₀ ≡ holding (counts_told answer) counts₀
-        go true e = let (k, w) = short e in rw w
-        go false e = counts_are answer counts₀ (ltb-false (length counts₀) 4 e)
+        go : (k : ℕ) → number ≡ k → told_or (λ c. four_in c.nodes c.records c.cuts c.stored) (unless k (counts_of q)) counts₀ ≡ holding (counts_told (unless k (counts_of q))) counts₀
+        go zero e = four _ _ _ _ counts₀ (roomy (ltb (length counts₀) 4) refl)
+          where
+            roomy : (b : Bool) → ltb (length counts₀) 4 ≡ b → 4 ≤ length counts₀
+            roomy true h = let (k, w) = short h in absurd (omega arith)
+            roomy false h = ltb-false (length counts₀) 4 h
+        go (suc k) e = refl
 
     demanded : r ≡ 0 → Demand q
     demanded z = go number refl
       where
+        found : (f : Result Grown Refusal) (c : Counts) → answered to_counts f ≡ given c → ((x : Grown) → f ≡ Ok x → Demand q) → Demand q
+        found (Ok x) c e d = d x refl
+        found (Err x) c e d = never (cc)
+
         go : (k : ℕ) → number ≡ k → Demand q
-        go zero e = left.demand _ _ (rw e at grew)
-        go (suc k) e = let w : grown_number g ≡ suc k = ap (λ (y : Grown). grown_number y) grew ∙ rw e in absurd (omega (arith, heard.number, w))
+        go zero e = found g (counts_of q) (rw e at grew) left.demand
+        go (suc k) e = absurd (omega (arith, rw e at counted.number))
 
     stored : RunStored (run_follows q sums number) q r before (whole before room after) counts₀ counts₁
     stored =
         record {
-          number = heard.number ∙ ap (λ (y : Grown). grown_number y) grew ∙ number_is answer;
+          number = counted.number;
           held = subst (λ (k : ℕ). Held (told_unless k sums) (told_unless k (records_of q)) (record_slices before) (record_slices after)) same left.held;
           nodes = ap (λ l. l ++ drop room before.nodes) (left.nodes ∙ ap (λ (k : ℕ). holding (map to_node (told_unless k (nodes 0 (tree_of q)))) (take room before.nodes)) same) ∙ nodes_whole;
           cuts = left.cuts ∙ ap (λ (k : ℕ). holding (told_unless k (sheet (tree_of q))) before.cuts) same;
@@ -171,7 +178,7 @@ module _ (s : Settings) (before : Slices) (counts₀ : List ℕ) (room : ℕ) (i
     unfolding counted_refusal
     short_tree = short_refused tests last (most_nodes x.n s.shortest) (length before.nodes) (length counts₀) (short_cuts x.n) (omega arith) tt
 
-    pub tree_stored : (g : Grown) (after : Slices) (counts₁ : List ℕ) (r : ℕ) → TreeLeft x s g (front before room) after → GrownTold g r counts₀ counts₁ → TreeStored x s r before (whole before room after) counts₀ counts₁
+    pub tree_stored : (g : Result Grown Refusal) (after : Slices) (counts₁ : List ℕ) (r : ℕ) → TreeLeft x s g (front before room) after → GrownTold (answered to_counts g) r counts₀ counts₁ → TreeStored x s r before (whole before room after) counts₀ counts₁
     unfolding tree_call counted_call
     tree_stored g after counts₁ r left heard = stored (run_of x s) (sums_of x) _ _ before counts₀ room is same_tree short_tree g after counts₁ r left heard
 
@@ -187,6 +194,6 @@ module _ (s : Settings) (before : Slices) (counts₀ : List ℕ) (room : ℕ) (i
     unfolding fed_counted_refusal
     short_fed = short_refused fed_tests_lem (fed_last_tests st s) (most_nodes st.n s.shortest) (length before.nodes) (length counts₀) (short_cuts st.n) (omega arith) tt
 
-    pub fed_stored : (g : Grown) (after : Slices) (counts₁ : List ℕ) (r : ℕ) → FedLeft st s g (front before room) after → GrownTold g r counts₀ counts₁ → FedStored st s r before (whole before room after) counts₀ counts₁
+    pub fed_stored : (g : Result Grown Refusal) (after : Slices) (counts₁ : List ℕ) (r : ℕ) → FedLeft st s g (front before room) after → GrownTold (answered to_counts g) r counts₀ counts₁ → FedStored st s r before (whole before room after) counts₀ counts₁
     unfolding fed_call fed_counted_call
     fed_stored g after counts₁ r left heard = stored (fed_run st s before.sums) [] _ _ before counts₀ room is same_fed short_fed g after counts₁ r left heard

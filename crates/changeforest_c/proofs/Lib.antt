@@ -1,4 +1,3 @@
--- What an enum's case tells of the definition's answer, and that guesses are at most three; what the exports of a tree share.
-pub mod Guessed
+-- The text of what is told of a row; what the exports of a tree share.
 pub mod Heard
 pub mod Counted

@@ -1,5 +1,6 @@
 -- What each export answers: 0 or the number; and what it leaves in lent slices and stores through lent places, each before and after.
-use Rattle.std.specs.Prelude.{◌≡◌, Bool, List, map, ℕ, Float, length}
+use Rattle.std.specs.Prelude.{◌≡◌, Bool, true, false, List, map, ℕ, Float, length, get_or}
+use Rattle.std.proofs.Math.Option.{Option, some, none}
 use Rattle.scope.specs.Lists.{holding}
 use Rattle.scope.specs.Asked.{Matrix, Shortest, Source, Settings}
 use Rattle.scope.specs.Refusals.{given}
@@ -15,7 +16,7 @@ use Rattle.prepared.specs.Answers.{tree_asked}
 use Rattle.entry_segments.specs.Left.{stored_told}
 use Rattle.entry_tree.specs.Left.{Slices, record_slices, fed_asked}
 use Rattle.entry_why.specs.Left.{why_told}
-use Rattle.told.specs.Told.{number_of, value_or, cells_or, split_or, gain_or, entry_or, length_or, counter_or, p_or, significant_or, told_or, reason_number, segment_of, kind_or, origin_number_or, text_length_or, first_or, second_or, not_above_or}
+use Rattle.told.specs.Told.{number_of, value_or, told_or, reason_number, segment_of, kind_or, origin_number_or, text_length_or, first_or, second_or, not_above_or}
 
 -- the minimal length
 pub record LengthStored (relative : Float) (n r m₀ m₁ : ℕ) : Type 0 where
@@ -38,8 +39,8 @@ pub record GainStored (a : GainAsked) (r : ℕ) (sums₀ sums₁ : List Float) (
 pub record SearchStored (a : SearchAsked) (r : ℕ) (sums₀ sums₁ : List Float) (split₀ split₁ : ℕ) (gain₀ gain₁ : Float) : Type 0 where
   pub number : r ≡ number_of (search_call a).answer
   pub sums : sums₁ ≡ holding (search_call a).sums sums₀
-  pub split : split₁ ≡ split_or (search_call a).answer split₀
-  pub gain : gain₁ ≡ gain_or (search_call a).answer gain₀
+  pub split : split₁ ≡ told_or (λ s k. s.split) (search_call a).answer split₀
+  pub gain : gain₁ ≡ told_or (λ s g. s.gain) (search_call a).answer gain₀
 
 -- the stored segments' records, how many, and the prefix sums
 pub record SegmentsStored (x : Matrix) (short : Shortest) (forbidden : List ℕ) (source : Source) (r : ℕ) (before after : RecordSlices) (count₀ count₁ : ℕ) : Type 0 where
@@ -68,13 +69,13 @@ TreeStored x s r before after counts₀ counts₁ =
 pub record OpenStored (a : OpenAsked) (r : ℕ) (sums₀ sums₁ : List Float) (count₀ count₁ : ℕ) : Type 0 where
   pub number : r ≡ number_of (open_call a).answer
   pub sums : sums₁ ≡ holding (open_call a).sums sums₀
-  pub count : count₁ ≡ cells_or (open_call a).answer count₀
+  pub count : count₁ ≡ told_or (λ s k. s.count) (open_call a).answer count₀
 
 -- a lot: its sums, and the count, which was the state's
 pub record FeedStored (a : FeedAsked) (r : ℕ) (sums₁ : List Float) (count₁ : ℕ) : Type 0 where
   pub number : r ≡ number_of (feed_call a).answer
   pub sums : sums₁ ≡ (feed_call a).sums
-  pub count : count₁ ≡ cells_or (feed_call a).answer a.state.count
+  pub count : count₁ ≡ told_or (λ s k. s.count) (feed_call a).answer a.state.count
 
 -- closing
 pub record CloseStored (s : State) (r : ℕ) : Type 0 where
@@ -116,20 +117,25 @@ pub record WhyStored (x : Matrix) (s : Settings) (row r : ℕ) (before after : R
 -- the pick and its gain
 pub record PickStored (a : PickAsked) (r split₀ split₁ : ℕ) (gain₀ gain₁ : Float) : Type 0 where
   pub number : r ≡ number_of (pick_answer a)
-  pub split : split₁ ≡ split_or (pick_answer a) split₀
-  pub gain : gain₁ ≡ gain_or (pick_answer a) gain₀
+  pub split : split₁ ≡ told_or (λ s k. s.split) (pick_answer a) split₀
+  pub gain : gain₁ ≡ told_or (λ s g. s.gain) (pick_answer a) gain₀
+
+-- the forbidden list, where one is given
+abbrev pub list_given : Bool → List ℕ → Option (List ℕ)
+list_given true forbidden = some forbidden
+list_given false forbidden = none
 
 -- one to three guesses, and how many
 pub record GuessesStored (a : GuessesAsked) (r first₀ first₁ second₀ second₁ third₀ third₁ count₀ count₁ : ℕ) : Type 0 where
   pub number : r ≡ number_of (guesses_answer a)
-  pub first : first₁ ≡ entry_or (guesses_answer a) 0 first₀
-  pub second : second₁ ≡ entry_or (guesses_answer a) 1 second₀
-  pub third : third₁ ≡ entry_or (guesses_answer a) 2 third₀
-  pub count : count₁ ≡ length_or (guesses_answer a) count₀
+  pub first : first₁ ≡ told_or (λ l k. get_or l 0 k) (guesses_answer a) first₀
+  pub second : second₁ ≡ told_or (λ l k. get_or l 1 k) (guesses_answer a) second₀
+  pub third : third₁ ≡ told_or (λ l k. get_or l 2 k) (guesses_answer a) third₀
+  pub count : count₁ ≡ told_or (λ l k. length l) (guesses_answer a) count₀
 
 -- a test's counter, p and whether it is significant
 pub record PermutationStored (a : PermutationAsked) (r counter₀ counter₁ : ℕ) (p₀ p₁ : Float) (significant₀ significant₁ : Bool) : Type 0 where
   pub number : r ≡ number_of (permutation_answer a)
-  pub counter : counter₁ ≡ counter_or (permutation_answer a) counter₀
-  pub p : p₁ ≡ p_or (permutation_answer a) p₀
-  pub significant : significant₁ ≡ significant_or (permutation_answer a) significant₀
+  pub counter : counter₁ ≡ told_or (λ t k. t.counted) (permutation_answer a) counter₀
+  pub p : p₁ ≡ told_or (λ t p. t.p) (permutation_answer a) p₀
+  pub significant : significant₁ ≡ told_or (λ t b. t.significant) (permutation_answer a) significant₀

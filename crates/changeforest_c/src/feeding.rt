@@ -2,8 +2,7 @@
 ghost use Rattle.std.specs.Prelude.{length};
 ghost use Rattle.changeforest_c.specs.Stored.{OpenStored, FeedStored, CloseStored, FedStored};
 
-use control::{Settings, Shortest};
-use entry_feed::Fed;
+use control::{Allowed, Settings, Shortest, Source};
 use feed::State;
 use node::Node;
 
@@ -13,11 +12,11 @@ pub extern "C" fn changeforest_open(n: usize, d: usize, sums: &mut [f64], count:
     ensures { OpenStored (record { n = n; d = d; room = length sums.old }) result sums.old sums.new count.old count.new }
 {
     match entry_feed::open(n, d, sums) {
-        Fed::State(state) => {
+        Ok(state) => {
             *count = state.count;
             0
         }
-        Fed::Refused(no) => no,
+        Err(refusal) => refusal.number(),
     }
 }
 
@@ -38,11 +37,11 @@ pub extern "C" fn changeforest_feed(
         count: *count,
     };
     match entry_feed::feed(lot, state, sums) {
-        Fed::State(next) => {
+        Ok(next) => {
             *count = next.count;
             0
         }
-        Fed::Refused(no) => no,
+        Err(refusal) => refusal.number(),
     }
 }
 
@@ -52,8 +51,8 @@ pub extern "C" fn changeforest_close(n: usize, d: usize, count: usize) -> u32
     ensures { CloseStored (record { n = n; d = d; count = count }) result }
 {
     match entry_feed::close(State { n, d, count }) {
-        Fed::State(state) => 0,
-        Fed::Refused(no) => no,
+        Ok(_) => 0,
+        Err(refusal) => refusal.number(),
     }
 }
 
@@ -81,22 +80,15 @@ pub extern "C" fn changeforest_fed_tree(
 {
     let shortest = Shortest { m, closed };
     let settings = Settings {
-        shortest,
+        allowed: Allowed {
+            shortest,
+            forbidden,
+        },
         threshold,
+        source: Source { layers, draws, w },
     };
+    let state = State { n, d, count };
     let room = told::counted_room(nodes.len(), counts.len());
-    let grown = entry_tree::fed_tree(
-        sums,
-        State { n, d, count },
-        settings,
-        forbidden,
-        layers,
-        draws,
-        w,
-        rows,
-        gains,
-        &mut nodes[..room],
-        cuts,
-    );
+    let grown = entry_tree::fed_tree(sums, state, settings, rows, gains, &mut nodes[..room], cuts);
     told::tell(grown, counts)
 }

@@ -3,21 +3,12 @@ ghost use Rattle.std.specs.Prelude.{◌≡◌};
 ghost use Rattle.scope.specs.Rounding.{to_f32};
 ghost use Rattle.changeforest_c.specs.Stored.{LengthStored};
 
-use entry_lengths::Length;
-
 // m from a relative length and n rows.
 #[unsafe(no_mangle)]
 pub extern "C" fn changeforest_minimal_segment_length(relative: f64, n: usize, m: &mut usize) -> u32
     ensures { LengthStored relative n result m.old m.new }
 {
-    let answer = entry_lengths::minimal_segment_length(relative, n);
-    match answer {
-        Length::Rows(rows) => {
-            *m = rows;
-            0
-        }
-        Length::Refused(no) => no,
-    }
+    told::tell_value(entry_lengths::minimal_segment_length(relative, n), m)
 }
 
 // The f32 nearest to x.

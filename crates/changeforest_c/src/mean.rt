@@ -2,10 +2,8 @@
 ghost use Rattle.std.specs.Prelude.{length};
 ghost use Rattle.changeforest_c.specs.Stored.{CandidatesStored, GainStored, SearchStored};
 
-use control::Shortest;
-use entry_mean::{Count, Gained};
-use optimizer::optimizer_result::BestSplit;
-use rows::Position;
+use control::{Allowed, Matrix, Shortest};
+use rows::{Position, Segment};
 
 // The candidates of [start, stop), written into rows, and how many.
 #[unsafe(no_mangle)]
@@ -21,21 +19,19 @@ pub extern "C" fn changeforest_split_candidates(
 ) -> u32
     ensures { CandidatesStored (record { n = n; shortest = record { m = m; closed = closed }; forbidden = forbidden.now; start = start; stop = stop; room = length rows.old }) result rows.old rows.new count.old count.new }
 {
-    let answer = entry_mean::split_candidates(
-        n,
-        Shortest { m, closed },
+    let shortest = Shortest { m, closed };
+    let allowed = Allowed {
+        shortest,
         forbidden,
-        Position(start),
-        Position(stop),
-        rows,
-    );
-    match answer {
-        Count::Written(written) => {
-            *count = written;
-            0
-        }
-        Count::Refused(no) => no,
-    }
+    };
+    let segment = Segment {
+        start: Position(start),
+        stop: Position(stop),
+    };
+    told::tell_value(
+        entry_mean::split_candidates(n, allowed, segment, rows),
+        count,
+    )
 }
 
 // The gain of the split of [start, stop); sums takes the prefix sums.
@@ -52,22 +48,13 @@ pub extern "C" fn changeforest_gain(
 ) -> u32
     ensures { GainStored (record { matrix = record { cells = cells.now; n = n; d = d }; start = start; stop = stop; split = split; room = length sums.old }) result sums.old sums.new gain.old gain.new }
 {
-    let answer = entry_mean::gain(
-        cells,
-        n,
-        d,
-        Position(start),
-        Position(stop),
-        Position(split),
-        sums,
-    );
-    match answer {
-        Gained::Of(value) => {
-            *gain = value;
-            0
-        }
-        Gained::Refused(no) => no,
-    }
+    let matrix = Matrix { cells, n, d };
+    let segment = Segment {
+        start: Position(start),
+        stop: Position(stop),
+    };
+    let answer = entry_mean::gain(matrix, segment, Position(split), sums);
+    told::tell_value(answer, gain)
 }
 
 // The best split of [start, stop) and its gain; sums takes the prefix sums.
@@ -87,22 +74,19 @@ pub extern "C" fn changeforest_find_best_split(
 ) -> u32
     ensures { SearchStored (record { matrix = record { cells = cells.now; n = n; d = d }; shortest = record { m = m; closed = closed }; forbidden = forbidden.now; start = start; stop = stop; room = length sums.old }) result sums.old sums.new split.old split.new gain.old gain.new }
 {
-    let answer = entry_mean::find_best_split(
-        cells,
-        n,
-        d,
-        Shortest { m, closed },
+    let matrix = Matrix { cells, n, d };
+    let shortest = Shortest { m, closed };
+    let allowed = Allowed {
+        shortest,
         forbidden,
-        Position(start),
-        Position(stop),
-        sums,
-    );
-    match answer {
-        BestSplit::Found(at, value) => {
-            *split = at.0;
-            *gain = value;
-            0
-        }
-        BestSplit::Refused(no) => no,
-    }
+    };
+    let segment = Segment {
+        start: Position(start),
+        stop: Position(stop),
+    };
+    told::tell_split(
+        entry_mean::find_best_split(matrix, allowed, segment, sums),
+        split,
+        gain,
+    )
 }

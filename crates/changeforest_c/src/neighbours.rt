@@ -1,7 +1,8 @@
 // The ordering and the predictions, exported.
 ghost use Rattle.entry_neighbours.specs.Left.{OrderingLeft, PredictLeft};
 
-use rows::Position;
+use control::Matrix;
+use rows::{Position, Segment};
 
 // Each row's order of all rows into ordering, row after row; the last row's distances are left in distances.
 #[unsafe(no_mangle)]
@@ -14,7 +15,7 @@ pub extern "C" fn changeforest_ordering(
 ) -> u32
     ensures { OrderingLeft (record { cells = cells.now; n = n; d = d }) result (record { ordering = ordering.old; distances = distances.old }) (record { ordering = ordering.new; distances = distances.new }) }
 {
-    entry_neighbours::ordering(cells, n, d, ordering, distances)
+    told::tell_done(entry_neighbours::ordering(Matrix { cells, n, d }, ordering, distances))
 }
 
 // For each row of [start, stop), the share of its neighbours there at or past split, into predictions.
@@ -32,15 +33,18 @@ pub extern "C" fn changeforest_predict(
 ) -> u32
     ensures { PredictLeft (record { cells = cells.now; n = n; d = d }) start stop split result (record { order = record { ordering = ordering.old; distances = distances.old }; predictions = predictions.old }) (record { order = record { ordering = ordering.new; distances = distances.new }; predictions = predictions.new }) }
 {
-    entry_neighbours::predict(
-        cells,
-        n,
-        d,
-        Position(start),
-        Position(stop),
+    let matrix = Matrix { cells, n, d };
+    let segment = Segment {
+        start: Position(start),
+        stop: Position(stop),
+    };
+    let answer = entry_neighbours::predict(
+        matrix,
+        segment,
         Position(split),
         ordering,
         distances,
         predictions,
-    )
+    );
+    told::tell_done(answer)
 }

@@ -1,8 +1,7 @@
 // The records of the stored segments, exported.
 ghost use Rattle.changeforest_c.specs.Stored.{SegmentsStored};
 
-use control::Shortest;
-use entry_mean::Count;
+use control::{Allowed, Matrix, Shortest, Source};
 
 // The records of the stored segments, of layers or of draws, and how many: start, stop, best split and the origin's kind and number of each into rows, its gain
 // into gains; sums takes the prefix sums. Of draws at most w are stored.
@@ -24,24 +23,13 @@ pub extern "C" fn changeforest_stored_segments(
 ) -> u32
     ensures { SegmentsStored (record { cells = cells.now; n = n; d = d }) (record { m = m; closed = closed }) forbidden.now (record { layers = layers.now; draws = draws.now; W = w }) result (record { sums = sums.old; rows = rows.old; gains = gains.old }) (record { sums = sums.new; rows = rows.new; gains = gains.new }) count.old count.new }
 {
-    let answer = entry_segments::stored_segments(
-        cells,
-        n,
-        d,
-        Shortest { m, closed },
+    let matrix = Matrix { cells, n, d };
+    let shortest = Shortest { m, closed };
+    let allowed = Allowed {
+        shortest,
         forbidden,
-        layers,
-        draws,
-        w,
-        sums,
-        rows,
-        gains,
-    );
-    match answer {
-        Count::Written(written) => {
-            *count = written;
-            0
-        }
-        Count::Refused(no) => no,
-    }
+    };
+    let source = Source { layers, draws, w };
+    let answer = entry_segments::stored_segments(matrix, allowed, source, sums, rows, gains);
+    told::tell_value(answer, count)
 }

@@ -1,7 +1,7 @@
 // The tree, exported.
 ghost use Rattle.changeforest_c.specs.Stored.{TreeStored};
 
-use control::{Settings, Shortest};
+use control::{Allowed, Matrix, Settings, Shortest, Source};
 use node::Node;
 
 // The tree of the run: its nodes in preorder into nodes, its cuts into cuts; start, stop, best split and the origin's kind and number of each
@@ -30,19 +30,17 @@ pub extern "C" fn changeforest_tree(
 {
     let shortest = Shortest { m, closed };
     let settings = Settings {
-        shortest,
+        allowed: Allowed {
+            shortest,
+            forbidden,
+        },
         threshold,
+        source: Source { layers, draws, w },
     };
     let room = told::counted_room(nodes.len(), counts.len());
     let grown = entry_tree::binary_segmentation(
-        cells,
-        n,
-        d,
+        Matrix { cells, n, d },
         settings,
-        forbidden,
-        layers,
-        draws,
-        w,
         sums,
         rows,
         gains,

@@ -1,11 +1,8 @@
 // The pick from a curve and the guesses, exported.
-ghost use Rattle.entry_two_step.specs.Answers.{list_given};
-ghost use Rattle.changeforest_c.specs.Stored.{PickStored, GuessesStored};
+ghost use Rattle.changeforest_c.specs.Stored.{PickStored, GuessesStored, list_given};
 
-use control::Shortest;
-use entry_two_step::Guessed;
-use optimizer::optimizer_result::BestSplit;
-use rows::Position;
+use control::{Allowed, Shortest};
+use rows::{Position, Segment};
 
 // The candidate of [start, stop) with the greatest value of the curve, and that value; the guess and minus infinity if none is greater.
 #[unsafe(no_mangle)]
@@ -23,23 +20,17 @@ pub extern "C" fn changeforest_pick(
 ) -> u32
     ensures { PickStored (record { n = n; shortest = record { m = m; closed = closed }; forbidden = forbidden.now; start = start; stop = stop; guess = guess; curve = curve.now }) result split.old split.new gain.old gain.new }
 {
-    let answer = entry_two_step::pick(
-        curve,
-        n,
-        Shortest { m, closed },
+    let shortest = Shortest { m, closed };
+    let allowed = Allowed {
+        shortest,
         forbidden,
-        Position(start),
-        Position(stop),
-        Position(guess),
-    );
-    match answer {
-        BestSplit::Found(at, value) => {
-            *split = at.0;
-            *gain = value;
-            0
-        }
-        BestSplit::Refused(no) => no,
-    }
+    };
+    let segment = Segment {
+        start: Position(start),
+        stop: Position(stop),
+    };
+    let answer = entry_two_step::pick(curve, n, allowed, segment, Position(guess));
+    told::tell_split(answer, split, gain)
 }
 
 // One to three guesses for [start, stop), and how many. An empty forbidden list that is given is not the same as none.
@@ -59,20 +50,17 @@ pub extern "C" fn changeforest_guesses(
 ) -> u32
     ensures { GuessesStored (record { n = n; shortest = record { m = m; closed = closed }; forbidden = list_given given forbidden.now; start = start; stop = stop }) result first.old first.new second.old second.new third.old third.new count.old count.new }
 {
-    let answer = entry_two_step::guesses(
-        n,
-        Shortest { m, closed },
-        given,
-        forbidden,
-        Position(start),
-        Position(stop),
-    );
-    match answer {
-        Guessed::Rows(found) => {
-            told::put_guesses(found, first, second, third);
-            *count = found.count;
+    let segment = Segment {
+        start: Position(start),
+        stop: Position(stop),
+    };
+    let shortest = Shortest { m, closed };
+    let listed = given.then_some(forbidden);
+    match entry_two_step::guesses(n, shortest, listed, segment) {
+        Ok(found) => {
+            told::put_guesses(found, first, second, third, count);
             0
         }
-        Guessed::Refused(no) => no,
+        Err(refusal) => refusal.number(),
     }
 }

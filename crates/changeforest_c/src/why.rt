@@ -1,8 +1,7 @@
 // Why a row is not on the sheet, exported.
 ghost use Rattle.changeforest_c.specs.Stored.{WhyStored};
 
-use control::{Settings, Shortest};
-use entry_why::Explained;
+use control::{Allowed, Matrix, Settings, Shortest, Source};
 use rows::Position;
 
 // What is told of the row: which reason into reason, 0 that it is a cut, 1 too near an end, 2 barred, 3 a gain that is no number, 4 a gain that does not exceed
@@ -40,31 +39,31 @@ pub extern "C" fn changeforest_why(
 {
     let shortest = Shortest { m, closed };
     let settings = Settings {
-        shortest,
+        allowed: Allowed {
+            shortest,
+            forbidden,
+        },
         threshold,
+        source: Source { layers, draws, w },
     };
-    let answer = entry_why::why(
-        cells,
-        n,
-        d,
-        settings,
-        forbidden,
-        layers,
-        draws,
-        w,
-        Position(row),
-        sums,
-        rows,
-        gains,
-        text,
-    );
-    match answer {
-        Explained::Why(found, written) => {
+    let matrix = Matrix { cells, n, d };
+    match entry_why::why(matrix, settings, Position(row), sums, rows, gains, text) {
+        Ok(found) => {
             told::put_why(
-                found, written, reason, start, stop, kind, number, length, a, b, gain,
+                found.why,
+                found.written,
+                reason,
+                start,
+                stop,
+                kind,
+                number,
+                length,
+                a,
+                b,
+                gain,
             );
             0
         }
-        Explained::Refused(no) => no,
+        Err(refusal) => refusal.number(),
     }
 }

@@ -7,6 +7,7 @@ ghost use Rattle.scope.specs.Calls.{search_refusal};
 ghost use Rattle.control.specs.Refused.{number_in, told};
 ghost use Rattle.control.specs.Settings.{matrix_of, shortest_of};
 ghost use Rattle.optimizer.specs.Records.{to_record, best_split_told, split_found, searched};
+ghost use Rattle.optimizer.specs.Searchable.{Searchable};
 
 use change_in_mean::ChangeInMean;
 use control::{Allowed, Matrix, Refusal};
@@ -22,7 +23,7 @@ pub fn search_segment(
     allowed: Allowed,
     segment: Segment,
 ) -> Result<GainRecord, Refusal>
-    requires start_le_stop { (segment.start.0 ≤ segment.stop.0) × (segment.stop.0 ≤ 4096) × (allowed.shortest.m ≤ 4096) }
+    requires start_le_stop { Searchable segment allowed.shortest }
     requires d_in_bounds { (segment.stop.0 + 1) * gain.d ≤ length gain.sums.now }
     ensures { told to_record result ≡ searched (gain_of gain.entry.sums.now gain.entry.d) (shortest_of allowed.entry.shortest) allowed.entry.forbidden.now segment.start.0 segment.stop.0 }
 {
@@ -37,7 +38,7 @@ pub fn search_segment(
 
 // The best split of a segment and its gain, or refusal 9 or 10.
 pub fn find_best_split(gain: ChangeInMean, allowed: Allowed, segment: Segment) -> BestSplit
-    requires start_le_stop { (segment.start.0 ≤ segment.stop.0) × (segment.stop.0 ≤ 4096) × (allowed.shortest.m ≤ 4096) }
+    requires start_le_stop { Searchable segment allowed.shortest }
     requires d_in_bounds { (segment.stop.0 + 1) * gain.d ≤ length gain.sums.now }
     ensures { best_split_told result ≡ split_found (searched (gain_of gain.entry.sums.now gain.entry.d) (shortest_of allowed.entry.shortest) allowed.entry.forbidden.now segment.start.0 segment.stop.0) }
 {

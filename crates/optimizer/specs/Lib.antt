@@ -1,4 +1,5 @@
 -- The code's own types, as document 01's values.
 pub mod Records
 pub mod Marks
-pub mod Left
+pub mod Remaining
+pub mod Searchable

@@ -3,8 +3,9 @@ ghost use Rattle.std.specs.Prelude.{◌≡◌, ◌≤◌, ℕ, Float};
 ghost use Rattle.scope.specs.Candidates.{candidates};
 ghost use Rattle.scope.specs.Grid.{best, trials};
 ghost use Rattle.control.specs.Settings.{shortest_of};
-ghost use Rattle.optimizer.specs.Left.{Each};
+ghost use Rattle.optimizer.specs.Remaining.{Each};
 ghost use Rattle.optimizer.specs.Records.{to_record};
+ghost use Rattle.optimizer.specs.Searchable.{Searchable};
 
 use crate::candidates::Candidates;
 use crate::optimizer_result::GainRecord;
@@ -33,7 +34,7 @@ pub fn greatest<G: Gain>(
     segment: Segment,
     from: GainRecord,
 ) -> GainRecord
-    requires start_le_stop { (segment.start.0 ≤ segment.stop.0) × (segment.stop.0 ≤ 4096) × (allowed.shortest.m ≤ 4096) }
+    requires start_le_stop { Searchable segment allowed.shortest }
     requires known { Each (G.IsKnown gain.now segment.start.0 segment.stop.0) (candidates (shortest_of allowed.shortest) allowed.forbidden.now segment.start.0 segment.stop.0) }
     requires of_segment { (from.start ≡ segment.start) × (from.stop ≡ segment.stop) }
     ensures { to_record result ≡ best (to_record from) (trials (G.gains gain.now) (shortest_of allowed.entry.shortest) allowed.entry.forbidden.now segment.start.0 segment.stop.0) }

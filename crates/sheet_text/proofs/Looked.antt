@@ -3,7 +3,6 @@ use mathlib.Core.Path.{◌≡◌, refl, sym, ◌∙◌}
 use mathlib.Core.List.{List, [], ◌∷◌, ◌++◌, append-nil, append_assoc}
 use Prim.Native.Nat.{ℕ, ◌+◌, ◌≤◌, ◌<◌}
 use native.Mathlib.Numerals.{add-one}
-use native.Mathlib.Omega.{arith}
 use mathlib.Core.Bool.{true, false}
 use lib.Dec.{eqb}
 use lib.ListN.{length, take, get_or}
@@ -14,8 +13,6 @@ use Rattle.stored.specs.Flat.{record_at}
 use Rattle.stored.specs.Records.{records_of}
 use Rattle.stored.specs.declared.records.Records.{Records}
 use Rattle.stored.proofs.Chosen.{left, left_all, left_none, left_next}
-use Rattle.report.specs.Written.{Put}
-use Rattle.report.specs.declared.Page.{Page}
 use Rattle.sheet_text.specs.Lines.{first_at, line_of, lines_of}
 
 -- none of the first k records splits at the row
@@ -43,9 +40,6 @@ module _ {records : Records} {row : ℕ} where
   unseen_all {k} h unseen = sym (unseen.same ∙ rw (left_none records.rows.now records.gains.now records.count k h))
 
 -- ---- one line more
-pub put_none : {page : Page} → Put page [] page
-put_none = record { same_slice = refl; long = refl; written = record { end_is = omega arith; after_is = refl } }
-
 lines_append : (rs : List Record) (xs ys : List ℕ) → lines_of rs (xs ++ ys) ≡ lines_of rs xs ++ lines_of rs ys
 unfolding lines_of
 lines_append rs [] ys = refl

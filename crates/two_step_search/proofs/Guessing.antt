@@ -17,8 +17,8 @@ use Rattle.std.specs.List.{slice_get}
 use Rattle.std.specs.Option.{option_map, unwrap_or}
 use Rattle.std.proofs.lemmas.Option.{unwrap_or-slice_get}
 use Rattle.rows.specs.declared.Position.{Position}
-use Rattle.optimizer.specs.Left.{row_of}
-use Rattle.optimizer.proofs.Left.{candidates_few}
+use Rattle.optimizer.specs.Remaining.{row_of}
+use Rattle.optimizer.proofs.Remaining.{candidates_few}
 
 -- two tests that pass together are the same
 same_test : (a b : Bool) → (a ≡ true → b ≡ true) → (b ≡ true → a ≡ true) → a ≡ b

@@ -11,6 +11,7 @@ ghost use Rattle.scope.specs.Calls.{guesses_tests, pick_tests};
 ghost use Rattle.control.specs.Refused.{number_in};
 ghost use Rattle.control.specs.Settings.{shortest_of};
 ghost use Rattle.optimizer.specs.Records.{to_record};
+ghost use Rattle.optimizer.specs.Searchable.{Searchable};
 ghost use Rattle.two_step_search.specs.Guessed.{rows_of};
 
 use control::{Allowed, Refusal, Shortest};
@@ -23,7 +24,7 @@ use rows::{Offset, Position, Segment};
 // Whether a row is a candidate.
 #[tactic(auto, using(crate::proofs::Guessing::member_below, crate::proofs::Guessing::member_above, crate::proofs::Guessing::member_inside))]
 pub fn is_candidate(allowed: Allowed, segment: Segment, row: Position) -> bool
-    requires { (segment.start.0 ≤ segment.stop.0) × (segment.stop.0 ≤ 4096) × (allowed.shortest.m ≤ 4096) }
+    requires { Searchable segment allowed.shortest }
     ensures { result ≡ is_member row.0 (candidates (shortest_of allowed.entry.shortest) allowed.entry.forbidden.now segment.start.0 segment.stop.0) }
 {
     let first = candidates::range_row(allowed.shortest, segment.start, 0);
@@ -54,7 +55,7 @@ pub fn single_find_best_split(
     segment: Segment,
     guess: Position,
 ) -> GainRecord
-    requires start_le_stop { (segment.start.0 ≤ segment.stop.0) × (segment.stop.0 ≤ 4096) × (1 ≤ allowed.shortest.m) × (allowed.shortest.m ≤ 4096) }
+    requires start_le_stop { (1 ≤ allowed.shortest.m) × Searchable segment allowed.shortest }
     requires curve_len { length curve.now ≡ segment.stop.0 - segment.start.0 }
     ensures { to_record result ≡ picked (shortest_of allowed.entry.shortest) allowed.entry.forbidden.now segment.start.0 segment.stop.0 guess.0 curve.now }
 {
@@ -104,7 +105,7 @@ impl Guesses {
 
 // The candidate number i, from 0; row 0 if there are no more than i.
 fn candidate_number(allowed: Allowed, segment: Segment, i: usize) -> Position
-    requires { (segment.start.0 ≤ segment.stop.0) × (segment.stop.0 ≤ 4096) × (allowed.shortest.m ≤ 4096) }
+    requires { Searchable segment allowed.shortest }
     ensures { result.0 ≡ get_or (candidates (shortest_of allowed.entry.shortest) allowed.entry.forbidden.now segment.start.0 segment.stop.0) i 0 }
 {
     Candidates::of(allowed, segment)
@@ -115,7 +116,7 @@ fn candidate_number(allowed: Allowed, segment: Segment, i: usize) -> Position
 // How many candidates there are.
 #[tactic(auto, using(crate::proofs::Guessing::few_rows))]
 fn count_candidates(allowed: Allowed, segment: Segment) -> usize
-    requires { (segment.start.0 ≤ segment.stop.0) × (segment.stop.0 ≤ 4096) × (allowed.shortest.m ≤ 4096) }
+    requires { Searchable segment allowed.shortest }
     ensures counted { result ≡ length (candidates (shortest_of allowed.entry.shortest) allowed.entry.forbidden.now segment.start.0 segment.stop.0) }
     ensures few { result ≤ 4097 }
 {
@@ -125,7 +126,7 @@ fn count_candidates(allowed: Allowed, segment: Segment) -> usize
 // The guesses with a forbidden list, even an empty one: candidates number c/4, c/2 and 3c/4 of c, each only if above the last kept.
 #[tactic(auto, unfolding(scope::specs::Curves::guesses))]
 pub fn guesses_listed(allowed: Allowed, segment: Segment) -> Guesses
-    requires start_le_stop { (segment.start.0 ≤ segment.stop.0) × (segment.stop.0 ≤ 4096) × (allowed.shortest.m ≤ 4096) }
+    requires start_le_stop { Searchable segment allowed.shortest }
     requires nonzero { 0 < length (candidates (shortest_of allowed.shortest) allowed.forbidden.now segment.start.0 segment.stop.0) }
     ensures { rows_of result ≡ guesses (shortest_of allowed.entry.shortest) (some allowed.entry.forbidden.now) segment.start.0 segment.stop.0 }
 {
@@ -149,7 +150,7 @@ pub fn guesses_listed(allowed: Allowed, segment: Segment) -> Guesses
 // of the segment past its start, keeping candidates.
 #[tactic(auto, unfolding(scope::specs::Curves::guesses))]
 pub fn guesses_between(shortest: Shortest, segment: Segment) -> Guesses
-    requires { (segment.start.0 ≤ segment.stop.0) × (segment.stop.0 ≤ 4096) × (shortest.m ≤ 4096) }
+    requires { Searchable segment shortest }
     ensures { rows_of result ≡ guesses (shortest_of shortest) none segment.start.0 segment.stop.0 }
 {
     let allowed = Allowed {

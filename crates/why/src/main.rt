@@ -7,105 +7,88 @@
 // where it is asked no row, or can't read or write, it says so on standard error, and it writes no other line.
 #![tactic(auto)]
 
-ghost use Rattle.std.specs.Prelude.{◌≡◌, [], ◌∷◌, ◌≤◌, length, take, IfSome};
+ghost use Rattle.std.specs.Prelude.{◌≡◌, [], ◌∷◌, ◌≤◌, length, take, IfSome, IfOk, option_map};
 ghost use Rattle.scope.specs.WhyText.{row_asked};
 ghost use Rattle.demand.specs.Printed.{AnswersWhy};
+ghost use Rattle.token.specs.Walk.{option_of};
 ghost use Rattle.reading.specs.Told.{Told, ToldOf};
-ghost use Rattle.why.specs.Asked.{asked_of, RowTold, RowToldOf};
+ghost use Rattle.why.specs.Asked.{RowTold, RowToldOf};
 
 use limits::SUMS;
 use line::{BARRED, MOST_CELLS};
-use reading::{Input, KEPT};
+use reading::{KEPT, Unreadable};
 use rows::Position;
 use std::env::{Env, FillError};
 use std::io;
-use token::Digits;
 use why_answers::TEXT;
 
 // So many digits has a number at most: a longer argument is none.
 const MOST_DIGITS: usize = 10;
 
-// What the arguments ask.
-#[derive(Clone, Copy)]
-enum Asked {
-    Row(Position),
-    Nothing,
-}
-
 // The row that one argument asks.
-fn row_of(argument: &[u8]) -> Asked
-    ensures { result ≡ asked_of (row_asked (argument.now ∷ [])) }
+fn row_of(argument: &[u8]) -> Option<Position>
+    ensures { option_of (option_map (λ row. row.0) result) ≡ row_asked (argument.now ∷ []) }
 {
-    match token::number_of(argument) {
-        Digits::Empty => Asked::Nothing,
-        Digits::Value(row) => Asked::Row(Position(row)),
-        Digits::Wrong => Asked::Nothing,
-    }
+    let row = token::number_of(argument)?;
+    Some(Position(row))
 }
 
-// The text for a row and the input, and how many bytes it has: none where the input could not be read.
+// The text for a row and the input: how many bytes it has.
 fn answer_row<R: io::Read>(
     input: &mut R,
     row: Position,
     kept: &mut [u8],
     out: &mut [u8; TEXT],
-) -> usize
+) -> Result<usize, Unreadable>
     requires { length kept.old ≤ 65536 }
-    ensures told { Told (AnswersWhy row.0) kept.new (take result out.new) }
-    ensures most { result ≤ length out.new }
-    ensures known { IfSome (R.remaining input.old) (λ xs. ToldOf (AnswersWhy row.0) xs (take result out.new)) }
+    ensures told { IfOk result (λ n. Told (AnswersWhy row.0) kept.new (take n out.new)) }
+    ensures most { IfOk result (λ n. n ≤ length out.new) }
+    ensures known { IfSome (R.remaining input.old) (λ xs. IfOk result (λ n. ToldOf (AnswersWhy row.0) xs (take n out.new))) }
 {
     let mut cells = [0.0; MOST_CELLS];
     let mut forbidden = [0usize; BARRED];
-    let Input::Read(read) = reading::read_all(input, kept, &mut cells, &mut forbidden) else {
-        return 0;
-    };
+    let read = reading::read_all(input, kept, &mut cells, &mut forbidden)?;
     let mut sums = [0.0; SUMS];
-    why_answers::answer(read, row, &cells, &forbidden, &mut sums, out)
-}
-
-// The argument asks no row, or so many bytes are the text for the row that it asks.
-#[derive(Clone, Copy)]
-enum Ran {
-    NoRow,
-    Text(usize),
+    Ok(why_answers::answer(read, row, &cells, &forbidden, &mut sums, out))
 }
 
 // The text for the row that the argument asks. Where it asks none, nothing is read.
-fn run<R: io::Read>(argument: &[u8], input: &mut R, kept: &mut [u8], out: &mut [u8; TEXT]) -> Ran
+fn run<R: io::Read>(
+    argument: &[u8],
+    input: &mut R,
+    kept: &mut [u8],
+    out: &mut [u8; TEXT],
+) -> Option<Result<usize, Unreadable>>
     requires { length kept.old ≤ 65536 }
     ensures told { RowTold argument.now kept.new out.new result }
     ensures known { IfSome (R.remaining input.old) (λ xs. RowToldOf argument.now xs out.new result) }
 {
-    match row_of(argument) {
-        Asked::Nothing => Ran::NoRow,
-        Asked::Row(row) => Ran::Text(answer_row(input, row, kept, out)),
-    }
+    let row = row_of(argument)?;
+    Some(answer_row(input, row, kept, out))
 }
 
-// The one argument behind the program's name, and how many bytes it has: none where there is not one, or where it is longer than a number.
-fn one_argument(rt: &HostRuntime, argument: &mut [u8; MOST_DIGITS]) -> usize
-    ensures { result ≤ length argument.new }
-{
-    match rt.arg(2, &mut [0u8; 1]) {
+// The one argument behind the program's name: empty where there is not one, or where it is longer than a number.
+fn one_argument<'a>(rt: &HostRuntime, argument: &'a mut [u8; MOST_DIGITS]) -> &'a [u8] {
+    let len = match rt.arg(2, &mut [0u8; 1]) {
         Err(FillError::NotPresent) => rt.arg(1, argument).unwrap_or(0),
         _ => 0,
-    }
+    };
+    &argument[..len]
 }
 
 fn main(rt: HostRuntime) {
     let mut argument = [0u8; MOST_DIGITS];
-    let given = one_argument(&rt, &mut argument);
+    let asked = one_argument(&rt, &mut argument);
     let mut kept = [0u8; KEPT];
     let mut out = [0u8; TEXT];
-    let Ran::Text(n) = run(&argument[..given], &mut rt.stdin(), &mut kept, &mut out) else {
+    let Some(answered) = run(asked, &mut rt.stdin(), &mut kept, &mut out) else {
         let _ = eprintln!(rt; "why: one argument is asked: a row's number, 1 to 10 digits");
         return;
     };
-    if n == 0 {
+    let Ok(n) = answered else {
         let _ = eprintln!(rt; "why: the input could not be read");
         return;
-    }
+    };
     if rt.write_all(&out[..n]).is_err() {
         let _ = eprintln!(rt; "why: the output could not be written");
     }

@@ -12,7 +12,9 @@ use Rattle.scope.specs.WhyText.{why_line, asked_text, why_program}
 use Rattle.demand.specs.Printed.{AnswersWhy}
 use Rattle.report.specs.Written.{Written}
 use Rattle.report.proofs.Texts.{written_so}
-use Rattle.deck.specs.declared.Read.{Read}
+use Rattle.std.specs.Prelude.{Result}
+use Rattle.line.specs.declared.Given.{Given}
+use Rattle.deck.specs.declared.BadLine.{BadLine}
 use Rattle.deck.specs.Walk.{start, run, fed, read_of}
 use Rattle.deck.specs.Meaning.{read_text, Said}
 use Rattle.deck.proofs.Said.{Gives, said, lots_said}
@@ -30,7 +32,7 @@ module _ (x : ℕ) where
       ∙ ap (λ (k : ℕ). or_refused k (why_line x (why_of (deck_run deck) x))) (asked_is deck x)
 
   -- THE LAW: of what stands at the start of a slice
-  pub written_said : (read : Read) (cells : List Float) (forbidden out out' : List ℕ) (r : ℕ) → Written out 0 (read_text (why_text x) read cells forbidden) out' r → r ≤ length out
+  pub written_said : (read : Result Given BadLine) (cells : List Float) (forbidden out out' : List ℕ) (r : ℕ) → Written out 0 (read_text (why_text x) read cells forbidden) out' r → r ≤ length out
       → Written out 0 (read_text (why_text x) read cells forbidden) out' r × (Said (AnswersWhy x) read cells forbidden (take r out') × (r ≤ length out'))
   unfolding why_program
   written_said read cells forbidden out out' r w h =

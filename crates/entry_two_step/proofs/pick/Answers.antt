@@ -10,7 +10,7 @@ pub returns-in-Err : goal.returns-in-Err
 returns-in-Err c = record { answer = pick_refused _ c.in-Err.refusal c.in-Err.ensures }
 
 pub single_find_best_split-requires-clause-start_le_stop : goal.single_find_best_split-requires-clause-start_le_stop
-single_find_best_split-requires-clause-start_le_stop c = let f = (pick_clean _ (sym c.in_default.ensures)).0 in (f.ordered, f.within, f.least, f.length_fits)
+single_find_best_split-requires-clause-start_le_stop c = let f = (pick_clean _ (sym c.in_default.ensures)).0 in (f.least, (f.ordered, f.within, f.length_fits))
 
 pub returns : goal.returns
 returns c =

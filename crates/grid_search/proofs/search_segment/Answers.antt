@@ -2,7 +2,7 @@
 use Rattle.std.proofs.Common.{arith}
 use Rattle.scope.proofs.Candidates.{one_at_most}
 use Rattle.control.specs.Settings.{shortest_of}
-use Rattle.optimizer.proofs.Left.{each_candidate}
+use Rattle.optimizer.proofs.Remaining.{each_candidate}
 use Rattle.grid_search.proofs.search_segment.Goals as goal
 
 pub greatest-requires-clause-known : goal.greatest-requires-clause-known

@@ -4,4 +4,4 @@ use Rattle.reading.proofs.Lots.{told_of}
 use Rattle.sheet.proofs.run.Goals as goal
 
 pub returns-clause-told : goal.returns-clause-told
-returns-clause-told g c = told_of (omega arith) (omega arith) c.in-Read.ensures.taken c.answer.ensures.said
+returns-clause-told g c = told_of (omega arith) (omega arith) c.in_ok-read.ensures.taken c.answer.ensures.said

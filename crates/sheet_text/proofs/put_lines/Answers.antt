@@ -1,9 +1,9 @@
 -- `put_lines` meets its contract: a line for each row so far.
 use Rattle.std.proofs.Common.{arith}
 use Rattle.stored.specs.Records.{records_of}
-use Rattle.report.proofs.Pages.{put_then}
+use Rattle.report.proofs.Pages.{put_none, put_then}
 use Rattle.sheet_text.specs.Lines.{lines_of}
-use Rattle.sheet_text.proofs.Looked.{put_none, lines_next, lines_all}
+use Rattle.sheet_text.proofs.Looked.{lines_next, lines_all}
 use Rattle.sheet_text.proofs.put_lines.Goals as goal
 
 pub loop-row-init : goal.loop-row-init

@@ -2,7 +2,7 @@
 use Rattle.std.proofs.Common.{ap, ◌∙◌}
 use Rattle.std.proofs.lemmas.Iterator.Consumers.{nth_from_yields_List, YieldsList-from_first}
 use Rattle.rows.specs.declared.Position.{Position}
-use Rattle.optimizer.specs.Left.{row_of, rows_left}
+use Rattle.optimizer.specs.Remaining.{row_of, rows_left}
 use Rattle.two_step_search.proofs.Guessing.{numbered}
 use Rattle.two_step_search.proofs.candidate_number.Goals as goal
 

@@ -1,20 +1,18 @@
--- `changeforest_why` meets its contract: the enum's case, told as a number and stored through the places.
-use mathlib.Core.Path.{sym, ◌∙◌, ap}
-use lib.ListN.{length}
+-- `changeforest_why` meets its contract: what is told is stored through the places, or the number is answered.
+use Rattle.std.proofs.Common.{◌≡◌, sym, ◌∙◌, ap, length}
+use Rattle.scope.proofs.Never.{never}
 use Rattle.reasons.specs.Answers.{to_why}
-use Rattle.changeforest_c.proofs.Heard.{why_given, why_refused, text_told, given_one, given_none}
+use Rattle.changeforest_c.proofs.Heard.{text_told}
 use Rattle.changeforest_c.proofs.why.changeforest_why.Goals as goal
 
 pub put_why-requires : goal.put_why-requires
-put_why-requires c =
-    let (a, l) = why_given _ _ _ _ (sym c.in-Why.is ∙ c.why-answer.ensures.answer) in
-    l ∙ ap length (text_told _ (to_why c.in-Why.found) a)
+put_why-requires c = c.why.ensures.written c.in-Ok.found c.in-Ok.is ∙ ap length (text_told _ (to_why c.in-Ok.found.why) c.in-Ok.ensures.answer)
 
-pub returns-in-Why : goal.returns-in-Why
-returns-in-Why c =
-    let f = c.why-answer.ensures in
+pub returns-in-Ok : goal.returns-in-Ok
+returns-in-Ok c =
+    let f = c.why.ensures in
     let told = c.put_why.ensures in
-    let (a, l) = why_given _ _ _ _ (sym c.in-Why.is ∙ f.answer) in
+    let a = sym c.in-Ok.ensures.answer in
     record {
       number = rw a;
       held = f.held;
@@ -28,15 +26,16 @@ returns-in-Why c =
       a = rw a told.a;
       b = rw a told.b;
       gain = rw a told.gain;
-      because = λ w e. rw (← given_one _ (to_why c.in-Why.found) w a e) (f.because c.in-Why.found c.in-Why.written c.in-Why.is);
+      because = λ w e. let is : to_why c.in-Ok.found.why ≡ w = cc (a, e) in rw (← is) (f.because c.in-Ok.found c.in-Ok.is);
     }
 
-pub returns-in-Refused : goal.returns-in-Refused
-returns-in-Refused c =
-    let f = c.why-answer.ensures in
-    let a = why_refused _ _ _ (sym c.in-Refused.is ∙ f.answer) in
+pub returns-in-Err : goal.returns-in-Err
+returns-in-Err c =
+    let f = c.why.ensures in
+    let a = sym c.in-Err.ensures.answer in
+    let n = c.number.ensures in
     record {
-      number = rw a;
+      number = rw a n;
       held = f.held;
       reason = rw a;
       start = rw a;
@@ -48,5 +47,5 @@ returns-in-Refused c =
       a = rw a;
       b = rw a;
       gain = rw a;
-      because = λ w e. given_none _ c.in-Refused.no w a e;
+      because = λ w e. never (cc (a, e));
     }

@@ -2,8 +2,8 @@
 use Rattle.std.proofs.Common.{map, arith, append_assoc, length-append}
 use Rattle.std.proofs.lemmas.List.{map-append}
 use Rattle.control.specs.Settings.{shortest_of}
-use Rattle.optimizer.specs.Left.{row_of, rows_left}
-use Rattle.optimizer.proofs.Left.{candidates_few, place_left, stored_next}
+use Rattle.optimizer.specs.Remaining.{row_of, rows_left}
+use Rattle.optimizer.proofs.Remaining.{candidates_few, place_left, stored_next}
 use Rattle.optimizer.proofs.candidates.split_candidates.Goals as goal
 
 pub bounds-rows-count : goal.bounds-rows-count

@@ -3,7 +3,7 @@ use Rattle.std.proofs.Common.{◌≡◌, length, map, ◌++◌}
 use Rattle.scope.specs.Lists.{holding}
 use Rattle.scope.specs.Candidates.{candidates}
 use Rattle.control.specs.Settings.{shortest_of}
-use Rattle.optimizer.specs.Left.{row_of, rows_left}
+use Rattle.optimizer.specs.Remaining.{row_of, rows_left}
 use Rattle.optimizer.proofs.candidates.split_candidates.Given as goal
 
 abbrev pub invariant-loop-row : goal.invariant-loop-row

@@ -2,7 +2,7 @@
 use Rattle.std.proofs.Common.{◌≡◌, map}
 use Rattle.scope.specs.Grid.{best, trial, trials}
 use Rattle.control.specs.Settings.{shortest_of}
-use Rattle.optimizer.specs.Left.{Each, rows_left}
+use Rattle.optimizer.specs.Remaining.{Each, rows_left}
 use Rattle.optimizer.specs.Records.{to_record}
 use Rattle.optimizer.proofs.gain.greatest.Given as goal
 

@@ -1,6 +1,6 @@
 -- What the loop of `next` keeps: the rows passed are barred.
 use Rattle.std.proofs.Common.{◌≡◌, ◌-◌}
-use Rattle.optimizer.specs.Left.{rows_left}
+use Rattle.optimizer.specs.Remaining.{rows_left}
 use Rattle.optimizer.proofs.candidates.CandidatesIterator.next.Given as goal
 
 abbrev pub invariant-loop-self : goal.invariant-loop-self

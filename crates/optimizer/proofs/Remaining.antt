@@ -6,7 +6,7 @@ use Rattle.scope.specs.Asked.{Shortest}
 use Rattle.scope.specs.Candidates.{is_barred, first_row, range_size, candidates}
 use Rattle.scope.proofs.Candidates.{candidates_are}
 use Rattle.scope.proofs.Lists.{store_more, length_upward}
-use Rattle.optimizer.specs.Left.{free_between, Each}
+use Rattle.optimizer.specs.Remaining.{free_between, Each}
 use Rattle.scope.specs.Allowed.{Allowed}
 
 upward_front : (lo k : ℕ) → upward lo (suc k) ≡ lo ∷ upward (lo + 1) k
