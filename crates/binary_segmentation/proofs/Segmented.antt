@@ -4,6 +4,7 @@ use mathlib.Core.List.{List, ◌++◌, map}
 use Prim.Native.Nat.{ℕ, zero, suc, ◌-◌, ◌*◌, ◌/◌, ◌≤◌}
 use native.Mathlib.Nat.{zero-add}
 use native.Mathlib.Omega.{arith}
+use lib.Ieee.{Float}
 use lib.ListN.{length}
 use Rattle.control.specs.Settings.{shortest_of}
 use Rattle.scope.specs.Grid.{Record}
@@ -14,6 +15,7 @@ use Rattle.stored.proofs.Flat.{sets_holding, put_more, put_told, standing_read}
 use Rattle.verdict.specs.declared.Asked.{Asked}
 use Rattle.verdict.specs.Rules.{run_over, over}
 use Rattle.binary_segmentation.specs.declared.tree.Counts.{Counts}
+use Rattle.node.specs.declared.Node.{Node as NodeStruct}
 use Rattle.node.specs.Nodes.{to_node}
 use Rattle.binary_segmentation.specs.Growth.{Lent, stored, Written, Growing, Sound, Fits, Ready, Holds, Segmented}
 use Rattle.demand.proofs.Records.{labelled_found, segments_are}
@@ -97,3 +99,8 @@ module _ (s : Asked) (n count : ℕ) (l : Lent) (ready : Ready s n count l) wher
 
   pub segmented : (l' : Lent) (next : Counts) → Growing (over s) 0 n before l l' next → Segmented s n count l l' next
   segmented l' next growing = record { by = λ segments stand. holds segments stand l' next growing }
+
+-- what the lent slices hold, each by itself
+pub held_there : {s : Asked} {n count : ℕ} {l l' : Lent} {next : Counts} {rows : List ℕ} {gains : List Float} {nodes : List NodeStruct} {cuts : List ℕ}
+    → l'.rows ≡ rows → l'.gains ≡ gains → l'.nodes ≡ nodes → l'.cuts ≡ cuts → Segmented s n count l l' next → Segmented s n count l (record { rows = rows; gains = gains; nodes = nodes; cuts = cuts }) next
+held_there r g n c h = rw (← r, ← g, ← n, ← c) h

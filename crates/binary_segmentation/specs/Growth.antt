@@ -14,6 +14,7 @@ use Rattle.node.specs.declared.Node.{Node as NodeStruct}
 use Rattle.verdict.specs.declared.Asked.{Asked}
 use Rattle.verdict.specs.Rules.{run_over}
 use Rattle.binary_segmentation.specs.declared.tree.Counts.{Counts}
+use Rattle.binary_segmentation.specs.declared.tree.Lent.{Lent as LentStruct}
 use Rattle.binary_segmentation.specs.declared.tree.Judged.{Judged}
 use Rattle.binary_segmentation.specs.declared.tree.Judged.TheVariants.{Uncut, Cut}
 use Rattle.node.specs.Nodes.{to_node, leaf_of}
@@ -24,6 +25,17 @@ pub record Lent : Type 0 where
   pub gains : List Float
   pub nodes : List NodeStruct
   pub cuts : List ℕ
+
+-- those that the struct stands for
+abbrev pub lent_of : LentStruct → Lent
+lent_of l = record { rows = l.rows.now; gains = l.gains.now; nodes = l.nodes.now; cuts = l.cuts.now }
+
+-- and that it lends the same slices
+pub record SameSlices (l l' : LentStruct) : Type 0 where
+  pub rows : l'.rows.ghost_name ≡ l.rows.ghost_name
+  pub gains : l'.gains.ghost_name ≡ l.gains.ghost_name
+  pub nodes : l'.nodes.ghost_name ≡ l.nodes.ghost_name
+  pub cuts : l'.cuts.ghost_name ≡ l.cuts.ghost_name
 
 -- the first k stored records
 abbrev pub stored : Lent → ℕ → List Record

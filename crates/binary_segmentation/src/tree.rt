@@ -1,8 +1,8 @@
 // Growing the tree: each segment is judged and its direct record appended; if it is cut, its left part is grown, then its right part.
-// What decides stands in small functions. `grow` and `binary_segmentation` hand the lent node list on and decide nothing.
+// What decides stands in small functions. `grow` and `binary_segmentation` hand the lent slices on and decide nothing.
 ghost use Rattle.std.specs.Prelude.{◌≡◌, ◌+◌, ◌*◌, ◌<◌, ◌≤◌, ◌^◌, length, set};
 ghost use Rattle.verdict.specs.Rules.{over, Sized};
-ghost use Rattle.binary_segmentation.specs.Growth.{behind, behind_cut, Judging, Growing, Fits, Ready, Segmented};
+ghost use Rattle.binary_segmentation.specs.Growth.{lent_of, SameSlices, behind, behind_cut, Judging, Growing, Fits, Ready, Segmented};
 
 use node::Node;
 use optimizer::optimizer_result::GainRecord;
@@ -20,7 +20,7 @@ pub struct Counts {
 }
 
 // A segment once it is judged, and the counts behind its node and its record: the leaf that it is, or the record that cuts it.
-#[derive(Clone, Copy)]
+#[derive(Clone, Copy, Debug)]
 pub enum Judged {
     Uncut(Node, Counts),
     Cut(GainRecord, Counts),
@@ -81,42 +81,46 @@ fn put_cut(cuts: &mut [usize], counts: Counts, split: Position) -> Counts
     }
 }
 
-// Grows the segment: its nodes in preorder, its records, and its cuts from left to right, behind those that are counted. Tells the counts behind them.
-fn grow(
-    asked: Asked,
-    segment: Segment,
-    rows: &mut [usize],
-    gains: &mut [f64],
-    nodes: &mut [Node],
-    cuts: &mut [usize],
-    counts: Counts,
-) -> Counts
-    requires { Sized asked segment.stop.0 × Fits (over asked) segment.start.0 segment.stop.0 counts (record { rows = rows.old; gains = gains.old; nodes = nodes.old; cuts = cuts.old }) }
-    ensures { Growing (over asked.entry) segment.start.0 segment.stop.0 counts (record { rows = rows.old; gains = gains.old; nodes = nodes.old; cuts = cuts.old }) (record { rows = rows.new; gains = gains.new; nodes = nodes.new; cuts = cuts.new }) result }
-{
-    match judge(asked, segment, rows, gains, counts) {
-        Judged::Uncut(leaf, behind) => {
-            node::put_node(nodes, counts.nodes, leaf);
-            behind
-        }
-        Judged::Cut(choice, first) => {
-            let split = choice.best_split;
-            let left = Segment {
-                stop: split,
-                ..segment
-            };
-            let right = Segment {
-                start: split,
-                ..segment
-            };
-            let second = grow(asked, left, rows, gains, nodes, cuts, first);
-            let behind = put_cut(cuts, second, split);
-            node::put_node(
-                nodes,
-                counts.nodes,
-                Node::cut(segment, choice, first.nodes, second.nodes),
-            );
-            grow(asked, right, rows, gains, nodes, cuts, behind)
+// Where a run is grown: its records' whole numbers and gains, its nodes and its cuts, each in a lent slice.
+#[derive(Drop)]
+struct Lent<'a> {
+    rows: &'a mut [usize],
+    gains: &'a mut [f64],
+    nodes: &'a mut [Node],
+    cuts: &'a mut [usize],
+}
+
+impl<'a> Lent<'a> {
+    // Grows the segment: its nodes in preorder, its records, and its cuts from left to right, behind those that are counted. Tells the counts behind them.
+    fn grow(&mut self, asked: Asked, segment: Segment, counts: Counts) -> Counts
+        requires { Sized asked segment.stop.0 × Fits (over asked) segment.start.0 segment.stop.0 counts (lent_of self.old) }
+        ensures grown { Growing (over asked.entry) segment.start.0 segment.stop.0 counts (lent_of self.old) (lent_of self.new) result }
+        ensures same { SameSlices self.old self.new }
+    {
+        match judge(asked, segment, self.rows, self.gains, counts) {
+            Judged::Uncut(leaf, behind) => {
+                node::put_node(self.nodes, counts.nodes, leaf);
+                behind
+            }
+            Judged::Cut(choice, first) => {
+                let split = choice.best_split;
+                let left = Segment {
+                    stop: split,
+                    ..segment
+                };
+                let right = Segment {
+                    start: split,
+                    ..segment
+                };
+                let second = self.grow(asked, left, first);
+                let behind = put_cut(self.cuts, second, split);
+                node::put_node(
+                    self.nodes,
+                    counts.nodes,
+                    Node::cut(segment, choice, first.nodes, second.nodes),
+                );
+                self.grow(asked, right, behind)
+            }
         }
     }
 }
@@ -139,5 +143,11 @@ pub fn binary_segmentation(
         records: count,
         cuts: 0,
     };
-    grow(asked, Segment::run(n), rows, gains, nodes, cuts, before)
+    let mut lent = Lent {
+        rows,
+        gains,
+        nodes,
+        cuts,
+    };
+    lent.grow(asked, Segment::run(n), before)
 }

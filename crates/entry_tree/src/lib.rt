@@ -1,5 +1,6 @@
 // The tree of a run: its node list, its records and its sheet; from its matrix, or from the sums that a fed run has left.
 // Entry points: whatever is passed in, each ends with an answer or with a refusal, which has changed no lent memory. None has a `requires`.
+// The lent slices stay parameters of their own: the C interface lends them one by one.
 #![tactic(auto)]
 
 ghost use Rattle.control.specs.Settings.{matrix_of, settings_of};

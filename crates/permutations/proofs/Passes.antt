@@ -1,5 +1,5 @@
 -- Passes over a list of permutations, one after another. Assumes nothing.
-use Rattle.std.proofs.Common.{◌≡◌, ℕ, ◌+◌, ◌*◌, ◌<◌, ◌≤◌, Bool, true, false, not, ◌||◌, eqb, ltb, List, length, sym, refl, ap, ◌∙◌, ⊎_elim, true≢false, mul-le-mul_right, suc-mul, arith, length-drop, length-take-le, ltb-false, eqb-true}
+use Rattle.std.proofs.Common.{◌≡◌, ℕ, ◌+◌, ◌*◌, ◌<◌, ◌≤◌, Bool, true, false, not, ◌||◌, eqb, ltb, List, length, sym, refl, ap, ◌∙◌, true≢false, mul-le-mul_right, suc-mul, arith, length-drop, length-take-le, ltb-false, eqb-true}
 use borrow.Author.Tests.{not-false}
 use Rattle.scope.specs.Lists.{every, upward}
 use Rattle.scope.specs.Permutations.{times, is_permutation, block, wrong_permutations}
@@ -8,7 +8,7 @@ use Rattle.scope.proofs.Lists.{upward_are}
 use Rattle.scope.proofs.Members.{second_of, every_of, of_every}
 use Rattle.permutations.specs.Marks.{Apart, PassedAll, all_true}
 use Rattle.scope.proofs.Candidates.{or_false}
-use Rattle.permutations.proofs.Times.{past, refute, each_once}
+use Rattle.permutations.proofs.Times.{refute, each_once}
 
 -- permutation number q of P lies within the list
 pub block_within : (q P L : ℕ) → q < P → q * L + L ≤ P * L
@@ -41,16 +41,6 @@ module _ (P L : ℕ) (permutations : List ℕ) where
 
   pub one_wrong : {low high : ℕ} → all_true P L permutations ≡ false → PassedAll P L low high permutations true
   one_wrong e = record { refuted = λ t. e; apart = λ f. absurd (true≢false f) }
-
-  -- passes for the values from low to middle - 1, and for those from middle to high - 1
-  pub passed_both : (low middle high : ℕ) {wrong : Bool} → ((p : ℕ) → p < P → Apart L low middle (block L permutations p)) → PassedAll P L middle high permutations wrong → PassedAll P L low high permutations wrong
-  passed_both low middle high first rest = record {
-    refuted = rest.refuted;
-    apart = λ f q h. record {
-      inside = (first q h).inside;
-      once = λ v l k. ⊎_elim (λ (m : middle ≤ v). (rest.apart f q h).once v m k) (λ (m : v < middle). (first q h).once v l m) (past middle v);
-    };
-  }
 
 -- ---- what is not refused
 module _ (P L : ℕ) (permutations : List ℕ) where
