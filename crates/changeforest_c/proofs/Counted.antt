@@ -12,7 +12,7 @@ use lib.Seq.{length-take-le, take-length, drop-length}
 use Rattle.std.specs.Prelude.{Result, Ok, Err}
 use Rattle.scope.specs.Lists.{holding}
 use Rattle.scope.specs.Asked.{Matrix, Settings}
-use Rattle.scope.specs.Refusals.{Test, test, first_of, Answer, refused, given, unless, told_unless, no7}
+use Rattle.scope.specs.Refusals.{Test, test, first_of, Answer, given, unless, told_unless, no7}
 use Rattle.scope.specs.Draws.{no8_draws}
 use Rattle.scope.specs.Tree.{Run, tree_of, records_of, Node, nodes, sheet, most_nodes}
 use Rattle.scope.specs.Calls.{sums_of, tree_tests, tree_refusal, tree_call, Counts, counts_of, run_of, run_follows, counted_refusal, counted_call, counts_told}

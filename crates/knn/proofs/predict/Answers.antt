@@ -17,7 +17,7 @@ use Rattle.scope.proofs.Lists.{store_more}
 use Rattle.rounding.proofs.Root.{square_ge, root_is}
 use Rattle.distances.specs.Matrix.{Filled}
 use Rattle.distances.proofs.Distances.{row_in, length_order, length_orders, order_at}
-use Rattle.knn.proofs.Counts.{past_are, past_few}
+use Rattle.knn.proofs.Counts.{past_are, few_of}
 use Rattle.knn.proofs.predict.Goals as goal
 use Rattle.knn.proofs.predict.Invariants.{State}
 
@@ -78,10 +78,8 @@ slice_bounds-count_past-end c = let there : c.position_from-row.result.0 < c.arg
 
 pub int_to_float-prediction : goal.int_to_float-prediction
 int_to_float-prediction c =
-    let s = c.args in
-    let order = take (c.position_from-row.result.0 * s.matrix.n + s.matrix.n - c.position_from-row.result.0 * s.matrix.n) (drop (c.position_from-row.result.0 * s.matrix.n) s.ordering.now) in
-    small c.count_past-count.result
-    (omega (arith, c.count_past-count.ensures, past_few s.segment.start.0 s.segment.stop.0 c.position_from-row.result.0 s.split.0 c.whole_root-k.result order c.loop-i.invariant.root, c.loop-i.invariant.few, c.requires.1, c.requires.2, c.requires.0.rows))
+    let few : c.count_past-count.result ≤ c.whole_root-k.result = few_of _ _ _ _ c.count_past-count.ensures in
+    small c.count_past-count.result (omega (arith, c.loop-i.invariant.few, c.requires.2, c.requires.0.rows))
 
 pub loop-i-preserved : goal.loop-i-preserved
 loop-i-preserved c =
