@@ -1,7 +1,8 @@
 // The program's answer to a reading: the text of its output, into lent memory. Inside the library.
 // specs/Answered.antt says what is written, and proofs/Said.antt that it is the program's text for whichever input was read. The room is in the types.
-// `answer` and `put_answer` are much like why_answers' own. One function for both would take what a deck's answer is as a closure over the lent memory, whose
+// `answer`, `put_answer` and `put_sheet` are much like why_answers' `answer`, `put_answer` and `put_why`. One function for both would take what a deck's answer is as a closure over the lent memory, whose
 // contract, at each of the two, would be longer than these lines.
+// The arrays stay apart: a struct of them would be built once and taken apart in `grow`, and the contracts name each all the same.
 #![tactic(auto)]
 
 ghost use Rattle.std.specs.Prelude.{◌≡◌, ◌+◌, ◌*◌, ◌≤◌, length, take};
@@ -17,7 +18,7 @@ ghost use Rattle.report.specs.Written.{Written, Put, RoomFor};
 ghost use Rattle.answers.specs.Answered.{given_text, given_number, Grew};
 
 use control::Refusal;
-use deck::BadLine;
+use deck::{BadLine, Read};
 use entry_tree::Grown;
 use limits::SUMS;
 use line::{BARRED, Given, MOST_CELLS};
@@ -37,7 +38,7 @@ pub const TEXT: usize = 111 * (CUTS + 2);
 
 // The answer to a reading, whose cells and forbidden pairs are those that `deck::feed` stored. Tells how many bytes were written.
 pub fn answer(
-    read: Result<Given, BadLine>,
+    read: Read,
     cells: &[f64; MOST_CELLS],
     forbidden: &[usize; BARRED],
     sums: &mut [f64; SUMS],
@@ -58,7 +59,7 @@ pub fn answer(
 // The same on a page.
 fn put_answer(
     page: &mut Page,
-    read: Result<Given, BadLine>,
+    read: Read,
     cells: &[f64; MOST_CELLS],
     forbidden: &[usize; BARRED],
     sums: &mut [f64; SUMS],

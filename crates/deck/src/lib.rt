@@ -38,6 +38,9 @@ pub struct Open {
 // The state of the input: in a line, or past the first malformed one.
 pub type State = Result<Open, BadLine>;
 
+// The reading of a whole input: what its deck has given, or its first malformed line.
+pub type Read = Result<Given, BadLine>;
+
 // After a byte.
 #[derive(Clone, Copy, Debug, PartialEq)]
 pub struct Moved {
@@ -138,7 +141,7 @@ impl Open {
     }
 
     // After the last byte. What follows the last LF is no line, and there must be a `cfg`.
-    fn finish(self) -> Result<Given, BadLine>
+    fn finish(self) -> Read
         ensures { result ≡ at_end self }
     {
         if self.at == 0 && self.phase != Phase::Begun {
@@ -157,6 +160,7 @@ pub fn start() -> State
 }
 
 // A lot of bytes, of any size, with what it gives to the lent slices. Past a malformed line it gives nothing.
+// Two slices of two types, which the contracts name one by one.
 pub fn feed(state: State, lot: &[u8], cells: &mut [f64], forbidden: &mut [usize]) -> State
     ensures state { result ≡ (fed (run state cells.old forbidden.old) lot.now).state }
     ensures cells { cells.new ≡ (fed (run state cells.old forbidden.old) lot.now).cells }
@@ -172,7 +176,7 @@ pub fn feed(state: State, lot: &[u8], cells: &mut [f64], forbidden: &mut [usize]
 }
 
 // After the last byte.
-pub fn finish(state: State) -> Result<Given, BadLine>
+pub fn finish(state: State) -> Read
     ensures answer { result ≡ read_of state }
     ensures said { Right state result }
 {

@@ -14,7 +14,7 @@ use control::{Refusal, Shortest};
 use permutations::Permutations;
 
 // What a permutation test found.
-#[derive(Clone, Copy)]
+#[derive(Clone, Copy, Debug, PartialEq)]
 pub struct TestResult {
     pub counter: usize,
     pub p_value: f64,

@@ -1,6 +1,6 @@
 // Rows while the deck feeds: a run is opened, takes its cells in whatever lots arrive, and is closed. Its sheet is a tree over the sums that stand then
 // (crate `entry_tree`, `fed_tree`).
-// Entry points: whatever is passed in, each ends with an answer or with the number of a refusal, which has changed no lent memory. None has a `requires`.
+// Entry points: whatever is passed in, each ends with an answer or with a refusal, which has changed no lent memory. None has a `requires`.
 #![tactic(auto)]
 
 ghost use Rattle.std.specs.Prelude.{length};

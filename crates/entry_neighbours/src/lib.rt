@@ -1,5 +1,6 @@
 // Nearest neighbours: each row's order of all rows, and the predictions for a segment.
 // Entry points: whatever is passed in, each ends with an answer or with a refusal, which has changed no lent memory. None has a `requires`.
+// The lent slices stay apart: a struct of `&mut` slices would be built for one call and taken apart in it, and the contract names each.
 #![tactic(auto)]
 
 mod refusals;
@@ -35,8 +36,14 @@ pub fn predict(
 ) -> Result<(), Refusal>
     ensures { PredictLeft (matrix_of matrix.entry) segment.start.0 segment.stop.0 split.0 (number_in result) (record { order = record { ordering = ordering.old; distances = distances.old }; predictions = predictions.old }) (record { order = record { ordering = ordering.new; distances = distances.new }; predictions = predictions.new }) }
 {
-    let (orders, last, room) = (ordering.len(), distances.len(), predictions.len());
-    refusals::predict_refusal(matrix, segment, split, orders, last, room)?;
+    refusals::predict_refusal(
+        matrix,
+        segment,
+        split,
+        ordering.len(),
+        distances.len(),
+        predictions.len(),
+    )?;
     distances::calculate_ordering(matrix, ordering, distances);
     knn::predict(matrix, segment, split, ordering, predictions);
     Ok(())

@@ -7,7 +7,7 @@ ghost use Rattle.control.specs.Settings.{matrix_of};
 use control::{Matrix, Refusal};
 use rows::{Position, Segment};
 
-// Of a call for the ordering, with room for so many rows of orders and so many distances.
+// Of a call for the ordering, with room for so many entries of the ordering and so many distances.
 #[tactic(auto, unfolding(scope::specs::Calls::ordering_refusal))]
 pub fn ordering_refusal(matrix: Matrix, ordering: usize, distances: usize) -> Result<(), Refusal>
     ensures { number_in result ≡ ordering_refusal (record { matrix = matrix_of matrix.entry; ordering = ordering; distances = distances }) }

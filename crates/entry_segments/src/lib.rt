@@ -1,5 +1,6 @@
 // Stored records: the searches of a run's stored segments, without a tree.
 // Entry points: whatever is passed in, each ends with an answer or with the refusal, which has changed no lent memory. None has a `requires`.
+// The lent slices stay apart: a struct of `&mut` slices would be built for one call and taken apart in it, and the contract names each.
 #![tactic(auto)]
 
 ghost use Rattle.control.specs.Settings.{matrix_of, shortest_of, source_of};

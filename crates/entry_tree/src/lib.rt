@@ -1,6 +1,6 @@
 // The tree of a run: its node list, its records and its sheet; from its matrix, or from the sums that a fed run has left.
 // Entry points: whatever is passed in, each ends with an answer or with a refusal, which has changed no lent memory. None has a `requires`.
-// The lent slices stay parameters of their own: the C interface lends them one by one.
+// The lent slices stay apart: a struct of `&mut` slices would be built for one call and taken apart in it, and the contract names each.
 #![tactic(auto)]
 
 ghost use Rattle.control.specs.Settings.{matrix_of, settings_of};
@@ -57,6 +57,7 @@ pub fn binary_segmentation(
 }
 
 // The later sheet: the same of a run that was fed, whose prefix sums stand in `sums`. There is no matrix, and the sums are read alone.
+// Each grows over its own sums: one function for both would take seven parameters and a contract longer than these lines.
 pub fn fed_tree(
     sums: &[f64],
     state: State,

@@ -1,6 +1,6 @@
 // Why a row is not on the sheet.
 // Entry points: whatever is passed in, each ends with an answer or with a refusal, which has changed no lent memory. None has a `requires`.
-// The lent slices stay parameters of their own: the C interface lends them one by one.
+// The lent slices stay apart: a struct of `&mut` slices would be built for one call and taken apart in it, and the contract names each.
 #![tactic(auto)]
 
 ghost use Rattle.std.specs.Prelude.{◌≡◌, ◌≤◌, length};

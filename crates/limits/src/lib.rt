@@ -60,7 +60,7 @@ fn given_refusal(deck: Given, forbidden: &[usize]) -> Result<(), Refusal>
     Ok(())
 }
 
-// The deck's refusal; the forbidden pairs are those that `deck::feed` stored.
+// The deck's refusal; the forbidden pairs are those that `deck::feed` stored. `refusal` takes any slice that long: an array would ask more.
 pub fn refusal(deck: Given, forbidden: &[usize]) -> Result<(), Refusal>
     requires { 128 ≤ length forbidden.now }
     ensures answer { number_in result ≡ given_refusal deck forbidden.now }
@@ -69,7 +69,8 @@ pub fn refusal(deck: Given, forbidden: &[usize]) -> Result<(), Refusal>
     given_refusal(deck, forbidden)
 }
 
-// The settings of a deck: the end is not closed, and it has no stored segments. Its forbidden pairs stand first in the slice that they were stored in.
+// The settings of a deck: the end is not closed, and it has no stored segments. Its forbidden pairs stand first in the slice that they were stored in,
+// or are the whole slice where it holds fewer: nothing is asked of the caller.
 pub fn settings(deck: Given, forbidden: &[usize]) -> Settings<'_>
     ensures { settings_of result ≡ settings_held deck forbidden.now }
 {

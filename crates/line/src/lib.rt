@@ -206,7 +206,7 @@ pub fn field_end(place: Place, given: Given, token: Token) -> Ended
     field_read(place, given, token).unwrap_or(onward(Place::Malformed, given))
 }
 
-// One that has no room is dropped.
+// Stores at a place; what has no room is dropped.
 fn store_at<T: Copy>(i: usize, v: T, held: &mut [T])
     ensures { held.new ≡ slice_set held.old i v }
 {

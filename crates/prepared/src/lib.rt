@@ -1,6 +1,6 @@
 // A call for the tree, up to its growing: judged, and where nothing is refused the prefix sums and the stored segments' records stored. What any run is
 // refused for first stands here as well. Inside the library.
-// The lent slices stay parameters of their own: the C interface lends them one by one.
+// The lent slices stay apart: a struct of `&mut` slices would be built for one call and taken apart in it, and the contract names each.
 #![tactic(auto)]
 
 ghost use Rattle.std.specs.Prelude.{◌≡◌, false, ◌≤◌};

@@ -8,8 +8,8 @@ ghost use Rattle.std.specs.Prelude.{◌≤◌, length, IfSome};
 ghost use Rattle.reading.specs.Taken.{Filled, Fetched, Rested, Taken};
 ghost use Rattle.reading.specs.Known.{FilledOf, FetchedOf, RestedOf, TakenOf};
 
-use deck::{BadLine, State};
-use line::{BARRED, Given, MOST_CELLS};
+use deck::{Read, State};
+use line::{BARRED, MOST_CELLS};
 use std::io;
 
 // How many bytes are kept. A deck with a sheet has less than 25,000: 64 pairs, and 2,048 cells of six bytes, each on a line of its own at most.
@@ -70,7 +70,7 @@ fn read_rest<R: io::Read>(
     first: State,
     cells: &mut [f64; MOST_CELLS],
     forbidden: &mut [usize; BARRED],
-) -> Result<Result<Given, BadLine>, Unreadable>
+) -> Result<Read, Unreadable>
     ensures rested { Rested first cells.old forbidden.old cells.new forbidden.new result }
     ensures known { IfSome (R.remaining input.old) (λ xs. RestedOf xs first cells.old forbidden.old cells.new forbidden.new result) }
 {
@@ -90,7 +90,7 @@ pub fn read_all<R: io::Read>(
     kept: &mut [u8],
     cells: &mut [f64; MOST_CELLS],
     forbidden: &mut [usize; BARRED],
-) -> Result<Result<Given, BadLine>, Unreadable>
+) -> Result<Read, Unreadable>
     requires { length kept.old ≤ 65536 }
     ensures taken { Taken kept.new cells.old forbidden.old cells.new forbidden.new result }
     ensures known { IfSome (R.remaining input.old) (λ xs. TakenOf xs cells.old forbidden.old cells.new forbidden.new result) }

@@ -1,4 +1,4 @@
-// The lines that the programs write, and their parts. Inside the library. A line of the sheet's program has at most 111 bytes: that is the room that each asks.
+// The lines that the programs write, and their parts. Inside the library. Each part asks what it takes at most.
 // They are no `write!`: that answers an error where a text does not fit, and no contract of it says that one fits.
 #![tactic(auto)]
 
@@ -15,7 +15,7 @@ ghost use Rattle.report.specs.Written.{Put, RoomFor};
 use optimizer::optimizer_result::{GainRecord, Origin};
 use rows::{Position, Segment};
 
-// A lent slice that is being written: its next byte stands at `at`.
+// A lent slice that is being written: its next byte stands at `at`. Each function moves `at` behind what it wrote.
 #[derive(Drop)]
 pub struct Page<'a> {
     pub out: &'a mut [u8],

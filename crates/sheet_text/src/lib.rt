@@ -18,6 +18,7 @@ use stored::records::Records;
 fn record_at(records: Records, row: Position) -> Option<GainRecord>
     ensures { option_map to_record result ≡ first_at row.0 (records_of records.entry) }
 {
+    // Records are no slice: each is five numbers and a gain in lent memory.
     for k in 0..records.count {
         let found = records.at(k);
         if found.best_split == row {
@@ -27,7 +28,7 @@ fn record_at(records: Records, row: Position) -> Option<GainRecord>
     None
 }
 
-// Its line.
+// The line of the first record that splits at the row, or nothing.
 fn put_line(page: &mut Page, records: Records, row: Position)
     requires { RoomFor line_room page.old }
     ensures written { Put page.old (line_of (first_at row.0 (records_of records.entry))) page.new }

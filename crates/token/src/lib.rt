@@ -174,7 +174,7 @@ fn hex_more(hex: Option<Places>, b: u8) -> Option<Places>
 pub struct Token {
     pub word: Word,
     pub cell: Cell,
-    // no threshold where there is none
+    // none once the field can't be a threshold
     pub hex: Option<Places>,
 }
 

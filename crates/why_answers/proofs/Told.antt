@@ -27,7 +27,7 @@ module _ (x : ℕ) (g : Given) (cells : List Float) (forbidden : List ℕ) where
   pub tells : (before after : Slices) (text₀ text₁ : List ℕ) (r : Result Explained Refusal) → length before.sums ≡ 2112 → length before.rows ≡ 0 → length before.gains ≡ 0 → length text₀ ≡ 25
       → WhyLeft (matrix_held g cells) (settings_held g forbidden) x r before after text₀ text₁ → Tells x g cells forbidden r
   unfolding row_number why_call
-  tells before after text₀ text₁ r a b c d left = record { answer_is = rw (a, b, c, d) at left.answer; because = left.because }
+  tells before after text₀ text₁ r a b c d left = record { answer_is = rw (a, b, c, d) at left.answer; written = rw (a, b, c, d) at left.written; because = left.because }
 
   abbrev q : Run
   q = run_held g cells forbidden

@@ -1,6 +1,7 @@
 // The answer of the program that tells why, to a reading: the text of its output, into lent memory. Inside the library.
 // specs/Answered.antt says what is written, and proofs/Said.antt that it is the program's text for whichever input was read. The room is in the types.
-// `answer` and `put_answer` are much like the crate answers' own, which says why they are not one.
+// `answer`, `put_answer` and `put_why` are much like the crate answers' `answer`, `put_answer` and `put_sheet`, which says why they are not one.
+// The arrays stay apart: a struct of them would be built once and taken apart in `explain`, and the contracts name each all the same.
 #![tactic(auto)]
 
 ghost use Rattle.std.specs.Prelude.{◌≡◌, ◌+◌, ◌≤◌, length, take};
@@ -16,7 +17,7 @@ ghost use Rattle.report.specs.Written.{Written, Put, RoomFor};
 ghost use Rattle.why_answers.specs.Answered.{Tells, why_text, given_number};
 
 use control::Refusal;
-use deck::BadLine;
+use deck::{BadLine, Read};
 use entry_why::Explained;
 use limits::SUMS;
 use line::{BARRED, Given, MOST_CELLS};
@@ -28,7 +29,7 @@ pub const TEXT: usize = 112;
 
 // The answer to a reading, of which the row is asked, and whose cells and forbidden pairs are those that `deck::feed` stored. Tells how many bytes were written.
 pub fn answer(
-    read: Result<Given, BadLine>,
+    read: Read,
     row: Position,
     cells: &[f64; MOST_CELLS],
     forbidden: &[usize; BARRED],
@@ -47,7 +48,7 @@ pub fn answer(
 // The same on a page.
 fn put_answer(
     page: &mut Page,
-    read: Result<Given, BadLine>,
+    read: Read,
     row: Position,
     cells: &[f64; MOST_CELLS],
     forbidden: &[usize; BARRED],
