@@ -2,10 +2,8 @@
 use mathlib.Core.Path.{◌≡◌, sym, ◌∙◌, refl}
 use mathlib.Core.Bool.{Bool, true, false, ◌&&◌}
 use mathlib.Core.List.{List, [], ◌∷◌}
-use Prim.Native.Nat.{ℕ, ◌+◌, ◌<◌}
-use native.Mathlib.Numerals.{add-one}
-use lib.ListN.{length, get_or, drop}
-use lib.Seq.{drop-cons, drop-length}
+use Prim.Native.Nat.{ℕ, ◌<◌}
+use lib.ListN.{length}
 use lib.Ieee.{Float, nan, inf, fin}
 use Rattle.std.specs.Bool.{MatchBool}
 use Rattle.std.specs.Float.{float_is_finite}
@@ -24,15 +22,6 @@ finite_is (inf s) = refl
 finite_is (fin s m e) = refl
 
 module _ {A : Type 0} (p : A → Bool) where
-  -- the member at i, and those after it
-  pub every_next : (l : List A) (i : ℕ) (d : A) → i < length l → every p (drop i l) ≡ (p (get_or l i d) && every p (drop (i + 1) l))
-  unfolding every
-  every_next l i d h = rw (add-one, drop-cons l i d h)
-
-  pub every_none : (l : List A) (i : ℕ) → i ≡ length l → every p (drop i l) ≡ true
-  unfolding every
-  every_none l i e = rw (e, drop-length)
-
   -- `every` in the library's word
   pub every_is : (l : List A) → every p l ≡ list_all p l
   unfolding every

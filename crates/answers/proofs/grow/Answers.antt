@@ -7,9 +7,6 @@ use Rattle.answers.proofs.grow.Goals as goal
 pub matrix-requires : goal.matrix-requires
 matrix-requires c = omega (arith, (given_clean c.args.deck c.args.forbidden.now c.requires).sizes.size)
 
-pub settings-requires : goal.settings-requires
-settings-requires c = omega (arith, (given_clean c.args.deck c.args.forbidden.now c.requires).pairs)
-
 pub returns : goal.returns
 returns c =
     let a = c.args in
