@@ -46,6 +46,7 @@ pub fn answer(
 }
 
 // The same on a page.
+#[tactic(auto, unfolding(crate::specs::Answered::why_text, scope::specs::Text::bytes))]
 fn put_answer(
     page: &mut Page,
     read: Read,
