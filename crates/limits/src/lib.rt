@@ -37,7 +37,7 @@ fn wrong_pairs(pairs: usize, forbidden: &[usize]) -> bool
 }
 
 // The refusal from what is kept of a deck, test by test.
-// Apart from `refusal`: whose second clause follows from this one's, and would else be owed at each of six returns, by an answer for each.
+// Apart from `refusal`, whose second clause follows from this answer, and would else be owed at each of six returns, by a proof for each.
 #[tactic(auto, unfolding(crate::specs::Limits::given_refusal))]
 fn given_refusal(deck: Given, forbidden: &[usize]) -> Result<(), Refusal>
     requires { 128 ≤ length forbidden.now }
