@@ -11,13 +11,8 @@ use node::Node;
 pub extern "C" fn changeforest_open(n: usize, d: usize, sums: &mut [f64], count: &mut usize) -> u32
     ensures { OpenStored (record { n = n; d = d; room = length sums.old }) result sums.old sums.new count.old count.new }
 {
-    match entry_feed::open(n, d, sums) {
-        Ok(state) => {
-            *count = state.count;
-            0
-        }
-        Err(refusal) => refusal.number(),
-    }
+    let opened = entry_feed::open(n, d, sums);
+    told::tell_value(opened.map(|state| state.count), count)
 }
 
 // Takes a lot of cells behind the first count ones: their prefix sums into sums, and count is then that of all taken.
@@ -36,13 +31,8 @@ pub extern "C" fn changeforest_feed(
         d,
         count: *count,
     };
-    match entry_feed::feed(lot, state, sums) {
-        Ok(next) => {
-            *count = next.count;
-            0
-        }
-        Err(refusal) => refusal.number(),
-    }
+    let fed = entry_feed::feed(lot, state, sums);
+    told::tell_value(fed.map(|next| next.count), count)
 }
 
 // Closes a run whose cells were all taken.
@@ -50,10 +40,8 @@ pub extern "C" fn changeforest_feed(
 pub extern "C" fn changeforest_close(n: usize, d: usize, count: usize) -> u32
     ensures { CloseStored (record { n = n; d = d; count = count }) result }
 {
-    match entry_feed::close(State { n, d, count }) {
-        Ok(_) => 0,
-        Err(refusal) => refusal.number(),
-    }
+    let closed = entry_feed::close(State { n, d, count });
+    told::tell_done(closed.map(|_state| ()))
 }
 
 // The later sheet: what changeforest_tree gives, over the sums that were fed, which are read alone.

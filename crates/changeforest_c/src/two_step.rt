@@ -33,7 +33,7 @@ pub extern "C" fn changeforest_pick(
     told::tell_split(answer, split, gain)
 }
 
-// One to three guesses for [start, stop), and how many. An empty forbidden list that is given is not the same as none.
+// One to three guesses for [start, stop), and how many. An empty forbidden list that is given is not the same as none: C has no Option, so `given` says which.
 #[unsafe(no_mangle)]
 pub extern "C" fn changeforest_guesses(
     n: usize,

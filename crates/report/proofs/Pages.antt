@@ -1,14 +1,11 @@
 -- Texts put on a page one after another. Assumes nothing.
 use mathlib.Core.Path.{◌≡◌, refl, ◌∙◌}
 use mathlib.Core.List.{List, [], ◌∷◌, ◌++◌, append_assoc}
-use Prim.Native.Nat.{ℕ, zero, suc, ◌+◌, ◌≤◌}
+use Prim.Native.Nat.{ℕ, ◌+◌, ◌≤◌}
 use native.Mathlib.Omega.{arith}
 use borrow.Rule.Slice.PartMut.{put_mid}
 use lib.ListN.{length}
 use lib.Seq.{sets, sets-eq, drop-drop}
-use Rattle.scope.specs.Refusals.{told_unless}
-use Rattle.scope.specs.Text.{bytes, decimal, line}
-use Rattle.scope.specs.Program.{or_refused}
 use Rattle.report.specs.Written.{Put}
 use Rattle.report.specs.declared.Page.{Page}
 use Rattle.report.proofs.Texts.{written_then}
@@ -28,12 +25,3 @@ field_then f p q = rw append_assoc at (put_then p q)
 -- nothing
 pub put_none : {a : Page} → Put a [] a
 put_none = record { same_slice = refl; long = refl; written = record { end_is = omega arith; after_is = refl } }
-
--- ---- a text that is put unless a number applies; the number then is put in its place
-module _ {no : ℕ} (text : List ℕ) where
-  pub refused_put : {a b c : Page} (k : ℕ) → (k ≡ 0 → ⊥) → k ≡ no → Put a (told_unless no text) b → Put b (line (bytes "refused" ∷ decimal k ∷ [])) c → Put a (or_refused no text) c
-  refused_put zero h e p q = absurd (h refl)
-  refused_put (suc k) h e p q = rw (← e) (put_then (rw (← e) at p) q)
-
-  pub text_put : {a b : Page} → 0 ≡ no → Put a (told_unless no text) b → Put a (or_refused no text) b
-  text_put e p = rw (← e) (rw (← e) at p)

@@ -1,4 +1,4 @@
-// How an answer reaches a host: what is stored through lent places. Inside the library.
+// How an answer reaches a host: as the number that C takes, 0 or a refusal's, and through lent places. Inside the library.
 #![tactic(auto)]
 
 ghost use Rattle.std.specs.Prelude.{◌≡◌, ◌≤◌, length, get_or, set};
@@ -70,7 +70,7 @@ pub fn counted_room(nodes: usize, counts: usize) -> usize
     nodes
 }
 
-// Stores a count at a place, where there is room for it.
+// Stores a count at a place, where there is room for it. `line` stores its cells and pairs so too, and no crate below both is of such stores.
 fn put(counts: &mut [usize], at: usize, count: usize)
     ensures { counts.new ≡ set counts.old at count }
 {
@@ -95,7 +95,7 @@ pub fn tell(grown: Result<Grown, Refusal>, counts: &mut [usize]) -> u32
     }
 }
 
-// Stores the rows that are guessed, and how many; the places of those that are not stay.
+// Stores the rows that are guessed, and how many; the places of those that are not stay. They are no struct, since the C interface lends each by itself.
 pub fn put_guesses(
     found: Guesses,
     first: &mut usize,
@@ -128,7 +128,7 @@ pub fn put_guesses(
     }
 }
 
-// What a host is told for each reason.
+// What a host is told for each reason: the C interface tells it by its number.
 const CUT: u32 = 0;
 
 const NEAR: u32 = 1;

@@ -45,6 +45,7 @@ pub fn answer(
 }
 
 // The same on a page.
+#[tactic(auto, unfolding(crate::specs::Answered::why_text, scope::specs::Text::bytes))]
 fn put_answer(
     page: &mut Page,
     read: Result<Given, BadLine>,

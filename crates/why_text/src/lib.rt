@@ -51,6 +51,7 @@ fn put_barred(page: &mut Page, row: Position, a: usize, b: usize, segment: Segme
 }
 
 // What is told of the row.
+#[tactic(auto, unfolding(scope::specs::Text::bytes, scope::specs::Text::line, report::specs::Fields::ended_by))]
 pub fn put_why(page: &mut Page, row: Position, why: Why)
     requires { RoomFor 112 page.old }
     ensures written { Put page.old (why_line row.0 (to_why why)) page.new }
