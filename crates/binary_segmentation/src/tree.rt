@@ -40,7 +40,7 @@ impl Counts {
     }
 }
 
-// Judges the segment after the records before, and appends its direct record.
+// Judges the segment after the records before, and appends its direct record. Of `Lent` it needs two slices.
 fn judge(
     asked: Asked,
     segment: Segment,

@@ -24,6 +24,7 @@ pub fn clear_first_row(sums: &mut [f64], d: usize)
 }
 
 // The prefix sums of cells that come behind `count` others: C[i+1] = (0 + x[i]) + C[i] per column, in one flat pass. C[i] stands d entries before.
+// By number: what a sum is made of stands in the same slice, so `zip` would be no plainer.
 #[tactic(auto, unfolding(scope::specs::Feed::fed_sums))]
 pub fn add_cells(cells: &[f64], d: usize, count: usize, sums: &mut [f64])
     requires { d + count + length cells.now ≤ length sums.old }
@@ -64,6 +65,7 @@ fn column_term(sums: &[f64], start: usize, stop: usize, x: usize, s1: f64, s2: f
 
 impl<'a> ChangeInMean<'a> {
     // The terms of the columns, added in order from 0; the rows of start, stop and x begin at these places.
+    // By column: three places of one slice are read at once, `zip` would be no plainer.
     #[tactic(auto, unfolding(scope::specs::Gain::terms))]
     fn column_terms(self, start: usize, stop: usize, x: usize, s1: f64, s2: f64) -> f64
         requires { (start + self.d ≤ length self.sums.now) × (stop + self.d ≤ length self.sums.now) × (x + self.d ≤ length self.sums.now) }

@@ -62,6 +62,7 @@ impl Curve<'_> {
 }
 
 // Three curves are lent; the first k are looked at.
+// C hosts lend three and a count, and a count that is none of 1 to 3 is refused, so it can't be a slice's length.
 #[derive(Clone, Copy)]
 pub struct Curves<'a> {
     pub lent: [Curve<'a>; 3],
@@ -120,19 +121,13 @@ impl Curves<'_> {
 pub fn curve_refusal(l0: &[f64], l1: &[f64], room: usize) -> Result<(), Refusal>
     ensures { number_in result ≡ curve_refusal (record { l0 = l0.now; l1 = l1.now; room = room }) }
 {
-    if !control::all_finite(l0) {
-        return Err(Refusal::NotFinite);
-    }
-    if !control::all_finite(l1) {
+    if !control::all_finite(l0) || !control::all_finite(l1) {
         return Err(Refusal::NotFinite);
     }
     if room < l0.len() {
         return Err(Refusal::Room);
     }
-    if l1.len() != l0.len() {
-        return Err(Refusal::Curves);
-    }
-    if control::is_outside(control::MOST_LENGTH, l0.len()) {
+    if l1.len() != l0.len() || control::is_outside(control::MOST_LENGTH, l0.len()) {
         return Err(Refusal::Curves);
     }
     Ok(())
@@ -165,10 +160,7 @@ pub fn permutation_refusal(
     if wrong_permutations(permutations, l) {
         return Err(Refusal::Permutations);
     }
-    if control::is_outside(MOST_CURVES, curves.k) {
-        return Err(Refusal::Curves);
-    }
-    if curves.wrong_lengths(l) {
+    if control::is_outside(MOST_CURVES, curves.k) || curves.wrong_lengths(l) {
         return Err(Refusal::Curves);
     }
     Ok(())

@@ -2,11 +2,9 @@
 // Each test is one of document 01's table of refusals; refusal.rt has its lines, settings.rt what calls are asked with.
 #![tactic(auto)]
 
-ghost use Rattle.std.specs.Prelude.{◌≡◌, true, false, [], ◌∷◌, ◌+◌, ◌*◌, ◌/◌, ◌≤◌, min, leb};
-ghost use Rattle.std.specs.Float.Ieee.{is_nan};
+ghost use Rattle.std.specs.Prelude.{◌≡◌, [], ◌∷◌, ◌+◌, ◌*◌, ◌/◌, ◌≤◌, min};
 ghost use Rattle.scope.specs.Floats.{is_finite};
 ghost use Rattle.scope.specs.Lists.{every};
-ghost use Rattle.scope.specs.Asked.{one_more, end_of};
 ghost use Rattle.scope.specs.Tree.{most_nodes};
 ghost use Rattle.scope.specs.Refusals.{first_of, most_rows, outside, wrong_sizes, wrong_matrix, is_between, well_paired, wrong_segment, wrong_split, no1, no1_rows, no2, no4, no5};
 ghost use Rattle.control.specs.Refused.{number_in};

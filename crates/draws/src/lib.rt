@@ -15,7 +15,7 @@ use rows::{Position, Segment};
 // W is at most this.
 pub const MOST_WILD: usize = 4096;
 
-// The draw whose pair stands at a place.
+// The draw whose pair stands at a place: a pair of the list, wherever it stands.
 pub fn draw_at(draws: &[usize], at: usize) -> Segment
     requires { at + 1 < length draws.now }
     ensures { to_segment result ≡ record { start = get_or draws.now at 0; stop = get_or draws.now (at + 1) 0 } }

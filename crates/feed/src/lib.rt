@@ -17,6 +17,7 @@ pub struct State {
     pub count: usize,
 }
 
+// A state comes from the host unchecked, so its type says nothing of its sizes.
 impl State {
     // Whether so many cells more are too many. The sum of both counts may be past the largest number, so it is not made.
     fn too_many(self, more: usize) -> bool
@@ -35,7 +36,7 @@ impl State {
         self.count < self.n * self.d
     }
 
-    // Whether all cells were taken, and no more.
+    // 13 and 14: refused unless all cells were taken, and no more.
     pub fn count_refusal(self) -> Result<(), Refusal>
         requires { (self.n ≤ 4096) × (self.d ≤ 64) }
         ensures { number_in result ≡ first_of (no13 (state_of self) 0 ∷ no14 (state_of self) ∷ []) }

@@ -3,7 +3,8 @@
 #![tactic(auto)]
 
 ghost use Rattle.std.specs.Prelude.{◌≡◌, ◌<◌, slice_set, unwrap_or};
-ghost use Rattle.token.specs.Walk.{option_of, as_number, as_cell};
+ghost use Rattle.token.specs.Options.{option_of};
+ghost use Rattle.token.specs.Walk.{as_number, as_cell};
 ghost use Rattle.line.specs.Walk.{up_to, nothing, onward as Walk·onward, malformed as Walk·malformed, place_of, number_at, number_end, bits_end, cell_at, cell_end, signed, ended, reads, stored_cell, stored_pair, stored_cells, stored_forbidden};
 
 use std::num::nearest_usize_to_f64;

@@ -1,5 +1,5 @@
 // What a split of a segment gains, and the search for the split that gains most. After gain/mod.rs and optimizer/grid_search.rs.
-ghost use Rattle.std.specs.Prelude.{◌≡◌, ◌≤◌, ℕ, Float};
+ghost use Rattle.std.specs.Prelude.{◌≡◌, ℕ, Float};
 ghost use Rattle.scope.specs.Candidates.{candidates};
 ghost use Rattle.scope.specs.Grid.{best, trials};
 ghost use Rattle.control.specs.Settings.{shortest_of};

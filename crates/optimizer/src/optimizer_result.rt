@@ -18,7 +18,7 @@ pub enum Origin {
     Draw(usize),
 }
 
-// The best split of [start, stop) and its gain, and where the record comes from.
+// The best split of [start, stop) and its gain, and where the record comes from. Start and stop of its own, as document 01 names the record's fields.
 #[derive(Clone, Copy, Debug)]
 pub struct GainRecord {
     pub start: Position,
@@ -28,14 +28,14 @@ pub struct GainRecord {
     pub origin: Origin,
 }
 
-// A search answers with a split and its gain, or with the refusal.
+// A search answers with a split and its gain, or with the refusal. An enum of its own, as document 01 names its cases.
 #[derive(Clone, Copy, Debug)]
 pub enum BestSplit {
     Found(Position, f64),
     Refused(Refusal),
 }
 
-// What stands for an origin's kind in lent memory.
+// What stands for an origin's kind in lent memory: the C interface takes and gives these numbers.
 const DIRECT: usize = 0;
 
 const LAYER: usize = 1;

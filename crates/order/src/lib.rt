@@ -4,7 +4,7 @@
 
 ghost use Rattle.std.specs.Prelude.{◌≡◌, cond, ◌+◌, ◌<◌, ◌≤◌, length, get_or, drop};
 ghost use Rattle.scope.specs.Neighbours.{is_nearer, insert, ordered};
-ghost use Rattle.order.specs.Rows.{merged, Below, Measured, Numeric, Halves};
+ghost use Rattle.order.specs.Rows.{merged, Below, Numeric, Halves};
 
 // So few rows are sorted faster by insertion than by merging (measured).
 const FEW: usize = 8;
@@ -19,6 +19,7 @@ fn is_nearer(ds: &[f64], a: u32, b: u32) -> bool
 
 // Puts a row into the order of those that stand from place 1 on: in front of the first that is no nearer. Rows move as they are
 // passed: with a return in place of the break it was slower, by 1.5% of all an ordering's instructions.
+// One pass that compares and moves; `position` and `rotate_left` would be two.
 fn insert_row(ds: &[f64], row: u32, out: &mut [u32])
     requires { (length ds.now ≤ 1024) × (row < length ds.now) × (1 ≤ length out.old) × (length out.old ≤ 1024) × Below (length ds.now) (drop 1 out.old) }
     ensures { out.new ≡ insert ds.now row (drop 1 out.old) }
@@ -86,7 +87,8 @@ fn first_row(ds: &[f64], a: &[u32], b: &[u32]) -> u32
     compared.near
 }
 
-// Two halves in order into one list, from both ends at once: neither end waits for the other. Turn k stores at two places, so it counts.
+// Two halves in order into one list, from both ends at once: neither end waits for the other. Turn k stores at k
+// from each end, so the turns are numbered.
 fn merge(ds: &[f64], a: &[u32], b: &[u32], out: &mut [u32])
     requires { Halves ds.now a.now b.now × (length out.old ≡ length a.now + length b.now) }
     ensures { out.new ≡ merged ds.now a.now b.now }

@@ -88,6 +88,7 @@ impl<const K: usize> Observed<'_, K> {
 }
 
 // One more than how many of the permutations have a sum that reaches the maximum.
+// It and `count_from` both name the facts, since `Observed`, which carries them, is made per K.
 pub fn permutation_count(
     curves: Curves,
     permutations: Permutations,
@@ -101,6 +102,7 @@ pub fn permutation_count(
     ensures { result ≡ counter (shortest_of shortest) l (take curves.entry.k (bases_of curves.entry.lent)) (take curves.entry.k (deltas_of curves.entry.lent)) maximum permutations.entry.indices.now permutations.entry.p }
 {
     let [first, second, third] = curves.lent;
+    // The number of curves is known to the compiler from here on.
     match curves.k {
         1 => count_from([first.base], curves, permutations, shortest, maximum, l),
         2 => count_from(
@@ -143,6 +145,7 @@ fn count_from<const K: usize>(
         maximum,
     };
     let mut counted = 1;
+    // By number, as `Permutations::at` takes them.
     for q in 0..permutations.p {
         if observed.exceeds_maximum(permutations.at(q, l), bases) {
             counted += 1;

@@ -39,6 +39,10 @@ module _ (P L : ℕ) (permutations : List ℕ) where
   passed_whole e true h = sym (ap not (h.refuted refl))
   passed_whole e false h = sym (ap not (all_apart e (h.apart refl)))
 
+  -- of none there is nothing to refute
+  pub none_true : P ≡ 0 → all_true P L permutations ≡ true
+  none_true e = of_every _ _ (λ q m. absurd (omega (arith, e, (upward_are 0 P q).0 m)))
+
   pub one_wrong : {low high : ℕ} → all_true P L permutations ≡ false → PassedAll P L low high permutations true
   one_wrong e = record { refuted = λ t. e; apart = λ f. absurd (true≢false f) }
 

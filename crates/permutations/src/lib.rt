@@ -98,7 +98,7 @@ impl Pass<'_> {
         false
     }
 
-    // The same, with marks of its own: 64 KiB of the stack.
+    // `any_wrong_with`, with marks of its own: 64 KiB of the stack.
     fn any_wrong_within(self) -> bool
         requires { self.high - self.low ≤ 524288 }
         ensures { PassedAll self.entry.permutations.p self.entry.l self.entry.low self.entry.high self.entry.permutations.indices.now result }
@@ -107,7 +107,7 @@ impl Pass<'_> {
         self.any_wrong_with(&mut marks)
     }
 
-    // The same, in as many passes as the values take: half of them, then the rest.
+    // `any_wrong_with`, in as many passes as the values take: half of them, then the rest.
     // A loop would do; a function that calls itself keeps those 64 KiB out of its callers' stack, where the compiler would else put them for every length.
     fn any_wrong_between(self) -> bool
         ensures { PassedAll self.entry.permutations.p self.entry.l self.entry.low self.entry.high self.entry.permutations.indices.now result }
@@ -172,11 +172,12 @@ fn any_wrong(permutations: Permutations, l: usize) -> bool
 const MOST_PERMUTATIONS: usize = 999;
 
 // Whether there are too many permutations, their entries do not number p * l, or one of them is no permutation of 0..l-1.
-#[tactic(auto, unfolding(scope::specs::Permutations::wrong_permutations))]
+// Where there are none, no pass is to run, however long they would be.
+#[tactic(auto, using(crate::proofs::Passes::none_true), unfolding(scope::specs::Permutations::wrong_permutations))]
 pub fn wrong_permutations(permutations: Permutations, l: usize) -> bool
     ensures { result ≡ wrong_permutations permutations.entry.p l permutations.entry.indices.now }
 {
     MOST_PERMUTATIONS < permutations.p
         || permutations.p.checked_mul(l) != Some(permutations.indices.len())
-        || any_wrong(permutations, l)
+        || (0 < permutations.p && any_wrong(permutations, l))
 }

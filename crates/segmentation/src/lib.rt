@@ -22,9 +22,9 @@ use optimizer::optimizer_result::Origin;
 use rows::Segment;
 use stored::records;
 
-// `rows`, `gains` and a place go together below, and stay apart: of a struct of two lent slices each contract would say besides that they are the same loans.
-
 // Searches a segment and stores its record, with its origin, at the place `at`; a segment that the search refuses leaves none. Tells the next place.
+// `rows`, `gains` and the place go together here and below, and stay apart: of a struct of two lent slices each contract would say besides that they are
+// the same loans.
 fn store_segment(
     gain: ChangeInMean,
     allowed: Allowed,

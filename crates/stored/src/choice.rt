@@ -37,6 +37,7 @@ pub fn choose(direct: GainRecord, records: Records) -> GainRecord
     ensures { to_record result ≡ best (to_record direct) (inside direct.start.0 direct.stop.0 (records_of records.entry)) }
 {
     let mut choice = direct;
+    // By place, since of most records no more is read than their ends.
     for k in 0..records.count {
         if lies_inside(records, k, direct) {
             choice = stronger(choice, records, k);

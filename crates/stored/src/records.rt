@@ -7,7 +7,7 @@ ghost use Rattle.stored.specs.Flat.{record_at, flat_rows, gains_of};
 use optimizer::optimizer_result::{GainRecord, Origin};
 use rows::Position;
 
-// The first `count` records of lent memory.
+// The first `count` records of lent memory. C hosts lend the whole numbers and the gains apart.
 #[derive(Clone, Copy)]
 pub struct Records<'a> {
     pub rows: &'a [usize],
@@ -32,7 +32,7 @@ impl Records<'_> {
     }
 }
 
-// Stores a record at a place.
+// Stores a record at a place. C hosts lend the whole numbers and the gains apart.
 pub fn put_record(rows: &mut [usize], gains: &mut [f64], at: usize, found: GainRecord)
     requires { (5 * at + 5 ≤ length rows.old) × (at < length gains.old) }
     ensures rows { rows.new ≡ sets rows.old (5 * at) (flat_rows (to_record found ∷ [])) }

@@ -1,2 +1,3 @@
 -- The definitions that the contracts of `token` cite.
 pub mod Walk
+pub mod Options

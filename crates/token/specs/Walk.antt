@@ -12,11 +12,6 @@ use Rattle.token.specs.declared.Cell.TheVariants.{Plain, Minus}
 use Rattle.token.specs.declared.Places.{Places}
 use Rattle.token.specs.declared.Token.{Token}
 
--- a value that may be missing, as the definitions have it
-abbrev pub option_of : {A : Type 0} → Option A → maybe.Option A
-option_of None = none
-option_of (Some x) = some x
-
 -- ---- the words `cfg`, `no` and `row`
 abbrev pub first_letter : ℕ → Word
 first_letter b = cond (eqb b 99) C (cond (eqb b 110) N (cond (eqb b 114) R Other))

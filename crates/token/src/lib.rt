@@ -3,7 +3,8 @@
 #![tactic(auto)]
 
 ghost use Rattle.std.specs.Prelude.{◌≡◌, ◌<◌};
-ghost use Rattle.token.specs.Walk.{option_of, word_more, value_more, digit_more, cell_more, hex_digit, place_more, hex_more, fresh as Walk·fresh, token_more, as_number, as_plain, as_bits};
+ghost use Rattle.token.specs.Options.{option_of};
+ghost use Rattle.token.specs.Walk.{word_more, value_more, digit_more, cell_more, hex_digit, place_more, hex_more, fresh as Walk·fresh, token_more, as_number, as_plain, as_bits};
 ghost use Rattle.scope.specs.Text.{number};
 
 // What the bytes so far are: nothing, a word of the program, the start of one, or neither.

@@ -1,7 +1,7 @@
 // The pick of a split from a lent gain curve, and the guesses that curves are made from. Inside the library. After optimizer/two_step_search.rs.
 #![tactic(auto)]
 
-ghost use Rattle.std.specs.Prelude.{◌≡◌, [], ◌∷◌, ◌++◌, ◌+◌, ◌-◌, ◌*◌, ◌<◌, ◌≤◌, length, get_or};
+ghost use Rattle.std.specs.Prelude.{◌≡◌, [], ◌++◌, ◌+◌, ◌-◌, ◌*◌, ◌<◌, ◌≤◌, length, get_or};
 ghost use Rattle.std.proofs.Math.Option.{some, none};
 ghost use Rattle.scope.specs.Candidates.{candidates};
 ghost use Rattle.scope.specs.Curves.{picked, is_member, guesses};

@@ -10,7 +10,7 @@
 ghost use Rattle.std.specs.Prelude.{◌≡◌, [], ◌∷◌, ◌≤◌, length, take, IfSome, IfOk, option_map};
 ghost use Rattle.scope.specs.WhyText.{row_asked};
 ghost use Rattle.demand.specs.Printed.{AnswersWhy};
-ghost use Rattle.token.specs.Walk.{option_of};
+ghost use Rattle.token.specs.Options.{option_of};
 ghost use Rattle.reading.specs.Told.{Told, ToldOf};
 ghost use Rattle.why.specs.Asked.{RowTold, RowToldOf};
 
