@@ -92,12 +92,13 @@ struct Lent<'a> {
 
 impl<'a> Lent<'a> {
     // Grows the segment: its nodes in preorder, its records, and its cuts from left to right, behind those that are counted. Tells the counts behind them.
-    fn grow(&mut self, asked: Asked, segment: Segment, counts: Counts) -> Counts
-        requires { Sized asked segment.stop.0 × Fits (over asked) segment.start.0 segment.stop.0 counts (lent_of self.old) }
-        ensures grown { Growing (over asked.entry) segment.start.0 segment.stop.0 counts (lent_of self.old) (lent_of self.new) result }
+    // What is asked is lent, so that no level of the tree holds it once more.
+    fn grow(&mut self, asked: &Asked, segment: Segment, counts: Counts) -> Counts
+        requires { Sized asked.now segment.stop.0 × Fits (over asked.now) segment.start.0 segment.stop.0 counts (lent_of self.old) }
+        ensures grown { Growing (over asked.now) segment.start.0 segment.stop.0 counts (lent_of self.old) (lent_of self.new) result }
         ensures same { SameSlices self.old self.new }
     {
-        match judge(asked, segment, self.rows, self.gains, counts) {
+        match judge(*asked, segment, self.rows, self.gains, counts) {
             Judged::Uncut(leaf, behind) => {
                 node::put_node(self.nodes, counts.nodes, leaf);
                 behind
@@ -149,5 +150,5 @@ pub fn binary_segmentation(
         nodes,
         cuts,
     };
-    lent.grow(asked, Segment::run(n), before)
+    lent.grow(&asked, Segment::run(n), before)
 }

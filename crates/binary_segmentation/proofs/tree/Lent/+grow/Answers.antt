@@ -19,7 +19,7 @@ grow-second-requires t c =
     let fits = c.requires.1 in
     let j = c.in-Cut.ensures in
     let w = split_within _ _ _ _ _ fits _ _ j in
-    (omega (arith, c.decreases, w), (sized_within c.args.asked c.in-Cut.choice.best_split.0 c.args.segment.stop.0 (omega (arith, w)) c.requires.0, fits_left _ _ _ _ _ fits _ _ j))
+    (omega (arith, c.decreases, w), (sized_within c.args.asked.now c.in-Cut.choice.best_split.0 c.args.segment.stop.0 (omega (arith, w)) c.requires.0, fits_left _ _ _ _ _ fits _ _ j))
 
 pub put_cut-behind-requires : goal.put_cut-behind-requires
 put_cut-behind-requires t c = fits_cut _ _ _ _ _ c.requires.1 _ _ c.in-Cut.ensures _ _ c.grow-second.ensures.grown
