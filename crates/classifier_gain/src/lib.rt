@@ -53,11 +53,10 @@ pub struct Curve<'a> {
 
 impl Curve<'_> {
     // Whether its base and its deltas are finite.
-    #[tactic(auto, using(control::proofs::Values::finite_is))]
     fn is_finite(self) -> bool
         ensures { result ≡ curve_is_finite self.entry }
     {
-        self.base.is_finite() && control::all_finite(self.deltas)
+        control::is_finite(self.base) && control::all_finite(self.deltas)
     }
 }
 
@@ -78,11 +77,11 @@ impl Curves<'_> {
     }
 
     // Whether the observed maximum is finite, and each curve.
-    #[tactic(auto, using(control::proofs::Values::finite_is, crate::proofs::Lents::finite_joined))]
+    #[tactic(auto, using(crate::proofs::Lents::finite_joined))]
     fn all_finite(self, maximum: f64) -> bool
         ensures { result ≡ every is_finite (maximum ∷ (take self.entry.k (bases_of self.entry.lent) ++ flatten (take self.entry.k (deltas_of self.entry.lent)))) }
     {
-        maximum.is_finite() && self.are_finite()
+        control::is_finite(maximum) && self.are_finite()
     }
 
     // Whether each is finite.

@@ -4,3 +4,4 @@ pub mod Pairs
 pub mod Sizes
 pub mod Clean
 pub mod Follows
+pub mod Apart

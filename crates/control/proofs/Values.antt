@@ -4,7 +4,7 @@ use mathlib.Core.Bool.{Bool, true, false, ◌&&◌}
 use mathlib.Core.List.{List, [], ◌∷◌}
 use Prim.Native.Nat.{ℕ, ◌<◌}
 use lib.ListN.{length}
-use lib.Ieee.{Float, nan, inf, fin}
+use lib.Ieee.{Float, nan, inf, fin, lt}
 use Rattle.std.specs.Bool.{MatchBool}
 use Rattle.std.specs.Float.{float_is_finite}
 use Rattle.scope.specs.Floats.{is_finite}
@@ -20,6 +20,20 @@ unfolding float_is_finite
 finite_is nan = refl
 finite_is (inf s) = refl
 finite_is (fin s m e) = refl
+
+-- below plus infinity, a value is finite exactly where it is above minus infinity
+pub finite_below : (v : Float) → lt v (inf false) ≡ true → lt (inf true) v ≡ is_finite v
+unfolding lt
+finite_below nan h = refl
+finite_below (inf true) h = refl
+finite_below (inf false) h = sym h
+finite_below (fin s m e) h = refl
+
+pub finite_above : (v : Float) → lt v (inf false) ≡ false → false ≡ is_finite v
+unfolding lt
+finite_above nan h = refl
+finite_above (inf s) h = refl
+finite_above (fin s m e) h = sym h
 
 module _ {A : Type 0} (p : A → Bool) where
   -- `every` in the library's word

@@ -34,12 +34,20 @@ pub fn is_outside(most: usize, v: usize) -> bool
     v < 1 || most < v
 }
 
+// Whether v is neither infinite nor NaN. By two comparisons: std's `is_finite` takes the value from itself, which at an infinite one raises the processor's
+// flag of an invalid operation, or ends a host that has the trap on; a refusal is to change nothing.
+pub fn is_finite(v: f64) -> bool
+    ensures { result ≡ is_finite v }
+{
+    v < f64::INFINITY && f64::NEG_INFINITY < v
+}
+
 // Whether all values are finite.
 #[tactic(auto, unfolding(scope::specs::Lists::every))]
 pub fn all_finite(values: &[f64]) -> bool
     ensures { result ≡ every is_finite values.now }
 {
-    values.iter().all(|value| value.is_finite())
+    values.iter().all(|value| is_finite(*value))
 }
 
 // Whether x lies strictly between low and high.
