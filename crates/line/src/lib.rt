@@ -204,7 +204,7 @@ fn field_read(place: Place, given: Given, token: Token) -> Option<Ended>
 pub fn field_end(place: Place, given: Given, token: Token) -> Ended
     ensures { result ≡ ended place given (reads token) }
 {
-    field_read(place, given, token).unwrap_or(onward(Place::Malformed, given))
+    field_read(place, given, token).unwrap_or_else(|| onward(Place::Malformed, given))
 }
 
 // Stores at a place; what has no room is dropped.

@@ -146,10 +146,11 @@ const ADMITTED: usize = 4096;
 // So many bytes are cleared without a call, which for short permutations would take longer than the pass.
 const FEW: usize = 64;
 
-// Whether one of the permutations is wrong. An admitted length takes one pass, in which each value has a byte of its own.
+// Whether one of short permutations is wrong. In a frame of its own, where its marks lie near: in its callers' the loop over them took twice as long (measured).
 #[tactic(auto, using(crate::proofs::Passes::passed_whole))]
-fn any_wrong(permutations: Permutations, l: usize) -> bool
-    requires { length permutations.indices.now ≡ permutations.p * l }
+#[inline(never)]
+fn any_wrong_of_few(permutations: Permutations, l: usize) -> bool
+    requires { (length permutations.indices.now ≡ permutations.p * l) × (l ≤ 64) }
     ensures { result ≡ not (all_true permutations.entry.p l permutations.entry.indices.now) }
 {
     let whole = Pass {
@@ -158,10 +159,25 @@ fn any_wrong(permutations: Permutations, l: usize) -> bool
         low: 0,
         high: l,
     };
+    let mut marks = [0u8; FEW];
+    whole.any_wrong_with(&mut marks)
+}
+
+// Whether one of the permutations is wrong. An admitted length takes one pass, in which each value has a byte of its own.
+#[tactic(auto, using(crate::proofs::Passes::passed_whole))]
+fn any_wrong(permutations: Permutations, l: usize) -> bool
+    requires { length permutations.indices.now ≡ permutations.p * l }
+    ensures { result ≡ not (all_true permutations.entry.p l permutations.entry.indices.now) }
+{
     if l <= FEW {
-        let mut marks = [0u8; FEW];
-        return whole.any_wrong_with(&mut marks);
+        return any_wrong_of_few(permutations, l);
     }
+    let whole = Pass {
+        permutations,
+        l,
+        low: 0,
+        high: l,
+    };
     if l <= ADMITTED {
         let mut marks = [0u8; ADMITTED];
         return whole.any_wrong_with(&mut marks[..l]);
