@@ -57,7 +57,7 @@ pub fn find_best_split(
     ensures { SearchLeft (record { matrix = matrix_of matrix.entry; shortest = shortest_of allowed.entry.shortest; forbidden = allowed.entry.forbidden.now; start = segment.start.0; stop = segment.stop.0; room = length sums.old }) (best_split_told result) sums.old sums.new }
 {
     if let Err(refusal) = grid_search::search_refusal(matrix, allowed, segment, sums.len()) {
-        return BestSplit::Refused(refusal);
+        return BestSplit::Refused(refusal.number());
     }
     change_in_mean::calculate_cumsum(matrix.cells, matrix.d, sums);
     let len = control::sums_len(matrix.n, matrix.d);

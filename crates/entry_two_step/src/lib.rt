@@ -27,7 +27,7 @@ pub fn pick(
     ensures answer { best_split_told result ≡ pick_answer (record { n = n; shortest = shortest_of allowed.entry.shortest; forbidden = allowed.entry.forbidden.now; start = segment.start.0; stop = segment.stop.0; guess = guess.0; curve = curve.now }) }
 {
     if let Err(refusal) = two_step_search::pick_refusal(n, allowed, segment, guess, curve) {
-        return BestSplit::Refused(refusal);
+        return BestSplit::Refused(refusal.number());
     }
     two_step_search::single_find_best_split(curve, allowed, segment, guess).best()
 }

@@ -44,7 +44,7 @@ pub fn find_best_split(gain: ChangeInMean, allowed: Allowed, segment: Segment) -
 {
     match search_segment(gain, allowed, segment) {
         Ok(found) => found.best(),
-        Err(refusal) => BestSplit::Refused(refusal),
+        Err(refusal) => BestSplit::Refused(refusal.number()),
     }
 }
 

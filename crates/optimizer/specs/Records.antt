@@ -7,7 +7,6 @@ use Rattle.scope.specs.Candidates.{no10}
 use Rattle.scope.specs.Origin as scope
 use Rattle.scope.specs.Grid.{Record, blank, best, trials}
 use Rattle.scope.specs.Calls.{Split, split_of}
-use Rattle.control.specs.Refused.{number_of}
 use Rattle.optimizer.specs.declared.optimizer_result.Origin.{Origin}
 use Rattle.optimizer.specs.declared.optimizer_result.Origin.TheVariants as origin
 use Rattle.optimizer.specs.declared.optimizer_result.GainRecord.{GainRecord}
@@ -50,7 +49,7 @@ guessed start stop guess = record { start = start; stop = stop; split = guess; g
 -- "A search answers with a split and its gain, or a number."
 abbrev pub best_split_told : BestSplit → Answer Split
 best_split_told (best_split.Found p gain) = given (record { split = p.0; gain = gain })
-best_split_told (best_split.Refused r) = refused (number_of r)
+best_split_told (best_split.Refused k) = refused k
 
 -- the record's split and gain
 abbrev pub split_found : Answer Record → Answer Split

@@ -7,7 +7,6 @@ ghost use Rattle.scope.specs.Calls.{split_of};
 ghost use Rattle.scope.specs.Layers.{with_origin};
 ghost use Rattle.optimizer.specs.Records.{to_origin, to_record, tried, guessed, best_split_told};
 
-use control::Refusal;
 use rows::{Position, Segment};
 
 // Where a record comes from: the search of a segment that the tree grows by; a layer, by its number from 1; or a draw, by its place in the list of draws, from 0.
@@ -28,11 +27,11 @@ pub struct GainRecord {
     pub origin: Origin,
 }
 
-// A search answers with a split and its gain, or with the refusal. An enum of its own, as document 01 names its cases.
+// A search answers with a split and its gain, or with the number of a refusal. An enum of its own, as document 01 names its cases.
 #[derive(Clone, Copy, Debug)]
 pub enum BestSplit {
     Found(Position, f64),
-    Refused(Refusal),
+    Refused(u32),
 }
 
 // What stands for an origin's kind in lent memory: the C interface takes and gives these numbers.

@@ -54,7 +54,7 @@ pub fn tell_split(answer: BestSplit, split: &mut usize, gain: &mut f64) -> u32
             *gain = best;
             0
         }
-        BestSplit::Refused(refusal) => refusal.number(),
+        BestSplit::Refused(no) => no,
     }
 }
 

@@ -1,6 +1,7 @@
 -- `find_best_split` meets its contract: the refusal, and nothing is told; or the best split, with the sums left.
-use Rattle.std.proofs.Common.{sym, arith}
+use Rattle.std.proofs.Common.{sym, ap, ◌∙◌, arith}
 use lib.Seq.{length-take-le}
+use Rattle.scope.specs.Refusals.{refused}
 use Rattle.control.specs.Settings.{matrix_of}
 use Rattle.optimizer.specs.Records.{best_split_told}
 use Rattle.change_in_mean.proofs.Room.{sums_part, row_within}
@@ -8,7 +9,9 @@ use Rattle.entry_mean.proofs.Clean.{search_clean, search_refused, search_given}
 use Rattle.entry_mean.proofs.find_best_split.Goals as goal
 
 pub returns-in-Err : goal.returns-in-Err
-returns-in-Err c = search_refused _ c.args.sums.now c.in-Err.refusal c.in-Err.ensures
+returns-in-Err c =
+    let left = search_refused _ c.args.sums.now c.in-Err.refusal c.in-Err.ensures in
+    record { answer = ap refused c.number.ensures ∙ left.answer; sums = left.sums }
 
 pub calculate_cumsum-requires : goal.calculate_cumsum-requires
 calculate_cumsum-requires c = let f = search_clean _ (sym c.in_default.ensures) in (f.sums.shape.columns.0, omega (arith, f.sums.total, f.sums.fits))
