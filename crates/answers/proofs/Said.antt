@@ -10,8 +10,8 @@ use Rattle.scope.specs.Calls.{run_of, tree_refusal}
 use Rattle.scope.specs.Program.{deck_refusal, deck_text, sheet_text, or_refused, program}
 use Rattle.demand.specs.Printed.{Answers}
 use Rattle.report.specs.Written.{Written}
-use Rattle.report.proofs.Texts.{written_so}
-use Rattle.std.specs.Prelude.{Result}
+use Rattle.report.proofs.Texts.{written_so, line_some, lines_some, refused_some}
+use Rattle.std.specs.Prelude.{Result, Ok, Err}
 use Rattle.line.specs.declared.Given.{Given}
 use Rattle.deck.specs.declared.BadLine.{BadLine}
 use Rattle.deck.specs.Walk.{start, run, fed, read_of}
@@ -19,7 +19,7 @@ use Rattle.deck.specs.Meaning.{read_text, Said}
 use Rattle.deck.proofs.Said.{Gives, said, lots_said}
 use Rattle.limits.specs.Held.{or_else}
 use Rattle.limits.proofs.Held.{text_same}
-use Rattle.answers.specs.Answered.{lent, tree_number, given_text}
+use Rattle.answers.specs.Answered.{lent, tree_number, given_number, given_text}
 use Rattle.answers.proofs.Limits.{tree_clean}
 use Rattle.answers.proofs.Printed.{answers}
 
@@ -39,6 +39,12 @@ pub written_said : (read : Result Given BadLine) (cells : List Float) (forbidden
     → Written out 0 (read_text given_text read cells forbidden) out' r × (Said Answers read cells forbidden (take r out') × (r ≤ length out'))
 unfolding program
 written_said read cells forbidden out out' r w h = written_so (Said Answers read cells forbidden) (said given_text deck_text gives Answers answers read cells forbidden) w h
+
+-- there is always a text: it has a line at least
+pub text_some : (read : Result Given BadLine) (cells : List Float) (forbidden : List ℕ) → 1 ≤ length (read_text given_text read cells forbidden)
+unfolding given_text sheet_text
+text_some (Err b) cells forbidden = line_some _
+text_some (Ok g) cells forbidden = refused_some (given_number g cells forbidden) _ (lines_some _ _)
 
 -- a whole input, in lots
 pub program_said : (cells₀ : List Float) (forbidden₀ : List ℕ) → 2048 ≤ length cells₀ → 128 ≤ length forbidden₀ → (lots : List (List ℕ)) → length (flatten lots) < 2 ^ 64 - 2

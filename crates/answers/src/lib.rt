@@ -49,6 +49,7 @@ pub fn answer(
 ) -> usize
     ensures written { Written out.old 0 (read_text given_text read cells.now forbidden.now) out.new result }
     ensures said { Said Answers read cells.now forbidden.now (take result out.new) }
+    ensures least { 1 ≤ result }
     ensures most { result ≤ length out.new }
 {
     let mut page = Page { out, at: 0 };

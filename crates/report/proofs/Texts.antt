@@ -1,4 +1,4 @@
--- Texts written one after another, the digits of a number, and the most bytes that a number and an origin take. Assumes nothing.
+-- Texts written one after another, the digits of a number, the most bytes that a number and an origin take, and the fewest of a line. Assumes nothing.
 use mathlib.Core.Path.{◌≡◌, refl, sym, ◌∙◌, ap}
 use mathlib.Core.Logic.{inr}
 use mathlib.Core.List.{List, [], ◌∷◌, ◌++◌, append_assoc}
@@ -12,8 +12,9 @@ use borrow.Author.Tests.{lt-ltb, le-ltb}
 use Rattle.io.specs.Digits.{last_digits, IsDigitCount}
 use Rattle.rows.proofs.Stored.{sets_append}
 use Rattle.scope.specs.Lists.{holding}
-use Rattle.scope.specs.Text.{bytes, decimal_of, decimal, hex_of}
+use Rattle.scope.specs.Text.{bytes, decimal_of, decimal, hex_of, line}
 use Rattle.scope.specs.Origin.{Origin, direct, layer, draw, origin_text}
+use Rattle.scope.specs.Program.{or_refused}
 use Rattle.scope.proofs.Digits.{digits_few}
 use Rattle.report.specs.Written.{Written}
 
@@ -91,3 +92,17 @@ unfolding origin_text bytes
 origin_most direct = omega arith
 origin_most (layer k) = omega (arith, decimal_most k)
 origin_most (draw k) = omega (arith, decimal_most k)
+
+-- ---- a line has its LF at least, also behind others, and a refusal is a line
+pub line_some : (fs : List (List ℕ)) → 1 ≤ length (line fs)
+unfolding line
+line_some [] = omega arith
+line_some (f ∷ []) = omega (arith, length-append f (10 ∷ []))
+line_some (f ∷ g ∷ fs) = omega (arith, length-append f (9 ∷ line (g ∷ fs)))
+
+pub lines_some : (before : List ℕ) (fs : List (List ℕ)) → 1 ≤ length (before ++ line fs)
+lines_some before fs = omega (arith, length-append before (line fs), line_some fs)
+
+pub refused_some : (no : ℕ) (text : List ℕ) → 1 ≤ length text → 1 ≤ length (or_refused no text)
+refused_some zero text h = h
+refused_some (suc k) text h = line_some _

@@ -62,7 +62,7 @@ impl<'a> Page<'a> {
     }
 
     // Bits as 16 hex digits.
-    fn put_hex(&mut self, bits: u64)
+    pub fn put_hex(&mut self, bits: u64)
         requires { RoomFor 16 self.old }
         ensures written { Put self.old (hex_of 16 bits) self.new }
         ensures most { self.new.at ≤ self.old.at + 16 }
@@ -111,13 +111,13 @@ impl<'a> Page<'a> {
         self.put_number(ends.stop.0 as u64, end);
     }
 
-    // A word, a row, its gain's bits in a segment, the segment's ends, and the byte after them.
+    // A word with its tab, a row, its gain's bits in a segment, the segment's ends, and the byte after them.
     pub fn put_gain(&mut self, word: &[u8], row: Position, gain: f64, ends: Segment, end: u8)
-        requires { RoomFor (length word.now + 81) self.old }
-        ensures written { Put self.old (ended_by end (word.now ∷ decimal row.0 ∷ hex_of 16 (to_bits binary64 gain) ∷ decimal ends.start.0 ∷ decimal ends.stop.0 ∷ [])) self.new }
-        ensures most { self.new.at ≤ self.old.at + length word.now + 81 }
+        requires { RoomFor (length word.now + 80) self.old }
+        ensures written { Put self.old (word.now ++ ended_by end (decimal row.0 ∷ hex_of 16 (to_bits binary64 gain) ∷ decimal ends.start.0 ∷ decimal ends.stop.0 ∷ [])) self.new }
+        ensures most { self.new.at ≤ self.old.at + length word.now + 80 }
     {
-        self.put_word(word);
+        self.put_text(word);
         self.put_number(row.0 as u64, b'\t');
         self.put_hex(bits_of(gain));
         self.put_byte(b'\t');
@@ -164,7 +164,7 @@ impl<'a> Page<'a> {
         ensures written { Put self.old (cut_line (to_record cut)) self.new }
         ensures most { self.new.at ≤ self.old.at + line_room }
     {
-        self.put_gain(b"cut", cut.best_split, cut.max_gain, cut.segment(), b'\t');
+        self.put_gain(b"cut\t", cut.best_split, cut.max_gain, cut.segment(), b'\t');
         self.put_last_origin(cut.origin);
     }
 }

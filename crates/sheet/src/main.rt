@@ -23,6 +23,7 @@ fn run<R: io::Read>(
 ) -> Result<usize, Unreadable>
     requires { length kept.old ≤ 65536 }
     ensures told { IfOk result (λ n. Told Answers kept.new (take n out.new)) }
+    ensures least { IfOk result (λ n. 1 ≤ n) }
     ensures most { IfOk result (λ n. n ≤ length out.new) }
     ensures known { IfSome (R.remaining input.old) (λ xs. IfOk result (λ n. ToldOf Answers xs (take n out.new))) }
 {

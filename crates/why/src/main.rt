@@ -42,6 +42,7 @@ fn answer_row<R: io::Read>(
 ) -> Result<usize, Unreadable>
     requires { length kept.old ≤ 65536 }
     ensures told { IfOk result (λ n. Told (AnswersWhy row.0) kept.new (take n out.new)) }
+    ensures least { IfOk result (λ n. 1 ≤ n) }
     ensures most { IfOk result (λ n. n ≤ length out.new) }
     ensures known { IfSome (R.remaining input.old) (λ xs. IfOk result (λ n. ToldOf (AnswersWhy row.0) xs (take n out.new))) }
 {
@@ -68,7 +69,9 @@ fn run<R: io::Read>(
 }
 
 // The one argument behind the program's name: empty where there is not one, or where it is longer than a number.
-fn one_argument<'a>(rt: &HostRuntime, argument: &'a mut [u8; MOST_DIGITS]) -> &'a [u8] {
+fn one_argument<'a>(rt: &HostRuntime, argument: &'a mut [u8; MOST_DIGITS]) -> &'a [u8]
+    ensures { length result.now ≤ length argument.old }
+{
     let len = match rt.arg(2, &mut [0u8; 1]) {
         Err(FillError::NotPresent) => rt.arg(1, argument).unwrap_or(0),
         _ => 0,

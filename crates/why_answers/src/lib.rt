@@ -38,6 +38,7 @@ pub fn answer(
 ) -> usize
     ensures written { Written out.old 0 (read_text (why_text row.0) read cells.now forbidden.now) out.new result }
     ensures said { Said (AnswersWhy row.0) read cells.now forbidden.now (take result out.new) }
+    ensures least { 1 ≤ result }
     ensures most { result ≤ length out.new }
 {
     let mut page = Page { out, at: 0 };

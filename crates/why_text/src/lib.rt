@@ -62,6 +62,6 @@ pub fn put_why(page: &mut Page, row: Position, why: Why)
         Why::TooNear(segment) => put_row(page, b"near", row, segment, b'\n'),
         Why::Barred(a, b, segment) => put_barred(page, row, a, b, segment),
         Why::NoNumber(segment) => put_row(page, b"nan", row, segment, b'\n'),
-        Why::NotAbove(gain, segment) => page.put_gain(b"below", row, gain, segment, b'\n'),
+        Why::NotAbove(gain, segment) => page.put_gain(b"below\t", row, gain, segment, b'\n'),
     }
 }

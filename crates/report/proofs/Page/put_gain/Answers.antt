@@ -10,5 +10,5 @@ pub returns-clause-written : goal.returns-clause-written
 unfolding ended_by
 returns-clause-written c =
     let gain = rw c.bits_of.ensures at c.put_hex.ensures.written in
-    field_then c.args.word.now c.put_word.ensures
+    put_then c.put_text.ensures
     (field_then (decimal c.args.row.0) c.put_number.ensures.written (field_then (hex_of 16 (to_bits binary64 c.args.gain)) (put_then gain c.put_byte.ensures) c.put_ends.ensures.written))
