@@ -23,7 +23,7 @@ use Rattle.scope.proofs.Never.{never}
 use Rattle.optimizer.specs.Records.{searched}
 
 -- every record of a search is of the segment [a, e)
-best_ends : (gain : ℕ → ℕ → ℕ → Float) (a e : ℕ) (b : Record) (xs : List ℕ) → b.start ≡ a → b.stop ≡ e
+pub best_ends : (gain : ℕ → ℕ → ℕ → Float) (a e : ℕ) (b : Record) (xs : List ℕ) → b.start ≡ a → b.stop ≡ e
     → ((best b (map (trial gain a e) xs)).start ≡ a) × ((best b (map (trial gain a e) xs)).stop ≡ e)
 unfolding best better
 best_ends gain a e b [] h k = (h, k)

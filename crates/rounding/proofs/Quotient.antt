@@ -13,7 +13,7 @@ is_lt Ordering.eq p q = absurd (true≢false q)
 is_lt Ordering.gt p q = absurd (false≢true p)
 
 module _ (n d : ℕ) where
-  closest_down : n % d * 2 < d → closest n d ≡ n / d
+  pub closest_down : n % d * 2 < d → closest n d ≡ n / d
   closest_down h = ap (nearest (n / d)) (is_lt (compare (n % d * 2) d) (le-leb _ _ (le_of_lt h)) (ne_eqb _ _ (ne_of_lt h)))
 
   pub closest_zero : n * 2 < d → closest n d ≡ 0

@@ -1,9 +1,12 @@
--- How a law goes by a test. Assumes nothing.
+-- Tests: what `search` is handed where a function follows its definition test by test, and how a law goes by a test. Assumes nothing.
 use mathlib.Core.Path.{◌≡◌, refl}
 use mathlib.Core.Bool.{Bool, true, false, cond, ◌&&◌, false≢true}
 use Prim.Native.Nat.{ℕ, ◌≤◌}
 use lib.Dec.{leb}
-use borrow.Author.Tests.{leb-true}
+use borrow.Author.Tests.{eq-eqb, ne_eqb, lt-ltb, le-ltb, le-leb, lt-leb, leb-true}
+
+-- the value of each test from the fact that its branch gives
+pub ruleset tested = (eq-eqb, ne_eqb, lt-ltb, le-ltb, le-leb, lt-leb)
 
 pub either : {P : Type 0} (t : Bool) → (t ≡ true → P) → (t ≡ false → P) → P
 either true f g = f refl

@@ -34,7 +34,7 @@ module _ (short : Shortest) (ps : List ℕ) (a e x : ℕ) where
       let (l, h) = (upward_are (a + short.m) (range_size short a e) x).0 j in
       (l, h, t)
 
-  member_outside : ((a + short.m ≤ x) × (x < a + short.m + range_size short a e) → ⊥) → is_member x (candidates short ps a e) ≡ false
+  pub member_outside : ((a + short.m ≤ x) × (x < a + short.m + range_size short a e) → ⊥) → is_member x (candidates short ps a e) ≡ false
   member_outside no_row = sym (same_test false (is_member x (candidates short ps a e)) (λ w. absurd (false≢true w)) (λ w. let (l, h, t) = in_range_lem (member_in x (candidates short ps a e) w) in absurd (no_row (l, h))))
 
   pub member_below : x < a + short.m → is_member x (candidates short ps a e) ≡ false
